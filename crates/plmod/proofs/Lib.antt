@@ -1,0 +1,3 @@
+pub mod FetchedLaws
+pub mod Parts
+pub mod Numbers

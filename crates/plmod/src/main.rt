@@ -1,0 +1,42 @@
+//! Runs goals over Prolog texts.
+#![tactic(auto)]
+
+mod fetch;
+mod running;
+mod status;
+mod top;
+mod words;
+
+use pl_atoms::{Name, NoMemory};
+use plm_io::{FileShelf, StdSink};
+use status::Status;
+use std::env;
+use std::process::ExitCode;
+use words::Words;
+
+fn main(rt: HostRuntime) -> ExitCode {
+    ExitCode::from(run(&rt) as u8)
+}
+
+fn run(rt: &HostRuntime) -> Status {
+    let Ok(words) = words_of(rt) else {
+        return Status::NoMemory;
+    };
+    let mut shelf = FileShelf::new(rt);
+    let mut out = StdSink::new(rt);
+    top::plmod(rt.alloc(), &words, &mut shelf, &mut out)
+}
+
+/// The words that the system gives, or none where it doesn't give them as texts.
+fn words_of(rt: &HostRuntime) -> Result<Words, NoMemory> {
+    let mut words = Words::new(rt.alloc());
+    if let Ok(args) = env::args(rt) {
+        for word in args.skip(1) {
+            words.push(Name::of(rt.alloc(), word.as_str())?)?;
+        }
+    }
+    Ok(words)
+}
+
+#[cfg(test)]
+mod tests;

@@ -1,0 +1,18 @@
+//! How a call of the program ends.
+
+/// The status of the process.
+#[derive(Clone, Copy, Debug, PartialEq, Eq)]
+pub enum Status {
+    /// The command was done.
+    Done = 0,
+    /// The run needed a step more than its budget.
+    Spent = 7,
+    /// A file could not be read.
+    ReadFault = 8,
+    /// A file or the output could not be written.
+    WriteFault = 9,
+    /// A growth was refused.
+    NoMemory = 10,
+    /// The words, a text or the goal have a form that isn't built yet.
+    NotBuilt = 11,
+}
