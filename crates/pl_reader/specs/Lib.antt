@@ -1,2 +1,11 @@
+pub mod Runs
+pub mod Machine
+pub mod Stands
+pub mod Standing
+pub mod Turning
+pub mod Moves
+pub mod Numbering
+pub mod CodeTexts
+pub mod Reads
 pub mod Simple
 pub mod SimpleSteps

@@ -279,3 +279,6 @@ fn is_reserved(name: &[u8]) -> bool
         || name == b"dynamic".as_slice()
         || name == b"discontiguous".as_slice()
 }
+
+#[cfg(test)]
+mod tests;

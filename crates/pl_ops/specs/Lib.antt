@@ -1,0 +1,5 @@
+pub mod Tables
+pub mod Standard
+pub mod Entries
+pub mod Refusals
+pub mod StandardRows

@@ -1,0 +1,7 @@
+mod Forest
+mod Steps
+pub mod Whole
+mod OrderLaws
+mod Numbering
+mod Seen
+mod CellOrder

@@ -1,0 +1,9 @@
+pub mod Trees
+pub mod Cells
+pub mod Forest
+pub mod TreeCode
+pub mod Order
+pub mod Occurrence
+pub mod CellNumbers
+pub mod NameBounds
+pub mod CellOrder

@@ -1,0 +1,12 @@
+pub mod Bodies
+pub mod Characters
+pub mod Comments
+pub mod Skipping
+pub mod Fronts
+pub mod NextTokens
+pub mod Numbers
+pub mod Readers
+pub mod Running
+pub mod Encoded
+pub mod Sound
+pub mod Reading

@@ -1,0 +1,12 @@
+use Rattle.std.proofs.Common.{◌≡◌, ◌+◌, ◌-◌, ◌≤◌, ◌++◌, reverse}
+use Rattle.pl_unify.specs.Stack.{span}
+use Rattle.pl_unify.proofs.store.read.push_span.Given as goal
+
+abbrev pub invariant-loop-left : goal.invariant-loop-left
+invariant-loop-left l = record {
+  few : l.left ≤ l.count;
+  pushed : reverse l.work.items ≡ span (l.first + l.left) (l.count - l.left) ++ reverse l.initial.work.items;
+}
+
+abbrev pub decreases-loop-left : goal.decreases-loop-left
+decreases-loop-left l = l.left

@@ -1,0 +1,15 @@
+use Rattle.std.proofs.Common.{◌≡◌, ◌∙◌, ◌+◌, ◌-◌, ◌++◌, ◌∷◌, ℕ, ap, arith, reverse}
+use Rattle.pl_unify.specs.Steps.{pair_span}
+use Rattle.pl_unify.proofs.Solving.{reverse-push_pair, pair_span-more}
+use Rattle.pl_unify.proofs.store.unify.push_pairs.Goals as goal
+
+pub loop-left-preserved : goal.loop-left-preserved
+loop-left-preserved c =
+    let k : ℕ = c.loop-left.left - 1 in
+    let one : c.loop-left.left ≡ k + 1 = omega arith in
+    record {
+      few = omega arith;
+      pushed = ap reverse c.in_ok-push.ensures.ok ∙ (reverse-push_pair c.loop-left.work.items (c.args.first + k, c.args.second + k)
+          ∙ (ap (λ r. (c.args.first + k, c.args.second + k) ∷ r) (c.loop-left.invariant.pushed ∙ ap (λ m. pair_span (c.args.first + m) (c.args.second + m) (c.args.count - m) ++ reverse c.args.work.now.items) one)
+          ∙ pair_span-more c.args.first c.args.second c.args.count k (reverse c.args.work.now.items) (omega arith)));
+    }

@@ -1,0 +1,11 @@
+pub mod Prefix
+pub mod Words
+pub mod State
+pub mod Shape
+pub mod Stack
+pub mod Steps
+pub mod Load
+pub mod Code
+pub mod Match
+pub mod Coding
+pub mod Notes

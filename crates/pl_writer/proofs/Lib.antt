@@ -1,0 +1,5 @@
+mod Bools
+mod Steps
+mod EdgeSteps
+mod WriterSteps
+mod WriterLoop

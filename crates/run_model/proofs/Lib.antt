@@ -1,0 +1,4 @@
+pub mod Replaced
+pub mod LawProofs
+pub mod MguProofs
+pub mod Only

@@ -1,0 +1,4 @@
+pub mod Substitution
+pub mod Unifier
+pub mod Mgu
+pub mod UnifierLaws

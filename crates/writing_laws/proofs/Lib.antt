@@ -1,0 +1,13 @@
+mod Look
+mod Bools
+mod Spells
+mod NamesBack
+mod TableBack
+mod Told
+mod Tells
+mod Runs
+mod Lexing
+mod QuotesBack
+mod ChainBack
+mod BackLaw
+mod Ground
