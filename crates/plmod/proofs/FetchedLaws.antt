@@ -1,16 +1,16 @@
 -- Files that were fetched, and what the commands over them promise.
-use Rattle.std.proofs.Common.{◌≡◌, ◌≢◌, ℕ, ◌+◌, ◌<◌, List, [], ◌∷◌, ◌++◌, Option, Some, None, MatchOption, IfSome, take, length, map, get_or, unwrap_or, refl, sym, ap, ◌∙◌, subst, inr}
+use Rattle.std.proofs.Common.{arith, ◌≡◌, ◌≢◌, ℕ, ◌+◌, ◌<◌, List, [], ◌∷◌, ◌++◌, Option, Some, None, MatchOption, IfSome, take, length, map, get_or, unwrap_or, refl, sym, ap, ◌∙◌, subst, inr}
 use Rattle.std.proofs.lemmas.List.{take_more}
-use Rattle.std.specs.Io.KnownBytes.{Keeps}
+use Rattle.std.specs.Io.KnownBytes.{Appends, Keeps}
 use Rattle.plm_io.specs.Causes.{Rose, AppendsFront}
-use Rattle.plm_io.proofs.FrontLaws.{front_of_nothing}
+use Rattle.plm_io.proofs.FrontLaws.{front_of_nothing, Appends_nothing}
 use Rattle.plm_io.specs.declared.traits.IoFault.{IoFault}
 use Rattle.plm_io.specs.declared.traits.IoFault.TheVariants.{Failed, NoMemory as OutOfMemory}
 use Rattle.plmod.specs.declared.status.Status.{Status}
-use Rattle.plmod.specs.declared.status.Status.TheVariants.{ReadFault, WriteFault, NoMemory, NotBuilt}
-use Rattle.plmod.specs.Words.{Order, All, read_names}
-use Rattle.plmod.specs.Outcome.{all_outcome}
-use Rattle.plmod.specs.Meets.{Told, Tells, bytes_under, Gives, AreReadable, AnyRose, HasStored, Around, Meets}
+use Rattle.plmod.specs.declared.status.Status.TheVariants.{Done, Usage, Spent, ReadFault, WriteFault, NoMemory, NotBuilt}
+use Rattle.plmod.specs.Words.{Order, All, read_names, out_name}
+use Rattle.plmod.specs.Outcome.{Outcome, outcome, usage_text, not_built, all_outcome}
+use Rattle.plmod.specs.Meets.{Answers, IsUsage, Told, Tells, bytes_under, Gives, AreReadable, AnyRose, HasStored, Around, Meets}
 use Rattle.plmod.specs.Fetched.{IsUnder, AreUnder}
 
 under_push : (file : Told) (names contents : List (List ℕ)) (name bytes : List ℕ) → AreUnder file names contents → IsUnder file name bytes
@@ -59,16 +59,19 @@ no_out : (stored : Option (List ℕ)) (old new : Told) → new ≡ old → HasSt
 no_out None old new h = h
 no_out (Some bytes) old new h = h
 
--- a command that reads these files, and puts none
-pub meets_all : (budget : ℕ) (goal : List ℕ) (texts contents : List (List ℕ)) (status : Status) (a : Around) → AreUnder a.file texts contents
+-- a run over one text, which puts no file
+pub meets_all : (budget : ℕ) (goal : List ℕ) (texts contents : List (List ℕ)) (status : Status) (a : Around) → length texts ≡ 1 → AreUnder a.file texts contents
     → Gives status (all_outcome budget goal contents) a.written a.written_after → (status ≡ WriteFault → Rose a.faults a.faults_after) → status ≢ ReadFault
-    → (status ≡ NotBuilt → Keeps a.written a.written_after) → a.file_after ≡ a.file → Meets (Some (All budget goal texts)) status a
-meets_all budget goal texts contents status a under gives write read not_built same =
+    → (status ≡ NotBuilt → Keeps a.written a.written_after) → status ≢ Usage → a.file_after ≡ a.file → Meets (Some (All budget goal texts)) status a
+meets_all budget goal [] contents status a one under gives write read not_built used same = absurd (omega arith)
+meets_all budget goal (text ∷ other ∷ texts) contents status a one under gives write read not_built used same = absurd (omega arith)
+meets_all budget goal (text ∷ []) contents status a one under gives write read not_built used same =
     record {
-      output = λ tells. (let P : List (List ℕ) → Type 0 = λ l. Gives status (all_outcome budget goal l) a.written a.written_after in subst P (sym (bytes_all a.file texts contents tells under)) gives);
+      output = λ tells. (let P : List (List ℕ) → Type 0 = λ l. Gives status (all_outcome budget goal l) a.written a.written_after in subst P (sym (bytes_all a.file (text ∷ []) contents tells under)) gives);
       stored = λ whole tells. no_out _ a.file a.file_after same;
-      readable = λ whole tells. readable_all a.file texts contents tells under;
+      readable = λ whole tells. readable_all a.file (text ∷ []) contents tells under;
       no_command = λ h. absurd (cc);
+      usage = λ h. absurd (used h);
       read_fault = λ h. absurd (read h);
       write_fault = λ h. inr (write h, λ tells. no_out _ a.file a.file_after same);
       others = λ name h. ap (λ (f : Told). f name) same;
@@ -93,6 +96,7 @@ meets_unread order Failed status a failed memory some any same nothing =
       stored = λ whole. absurd whole;
       readable = λ whole. absurd whole;
       no_command = λ h. absurd (some h);
+      usage = λ h. (cc);
       read_fault = λ h. any refl;
       write_fault = λ h. (cc);
       others = λ name h. ap (λ (f : Told). f name) same;
@@ -106,9 +110,68 @@ meets_unread order OutOfMemory status a failed memory some any same nothing =
       stored = λ whole. absurd whole;
       readable = λ whole. absurd whole;
       no_command = λ h. absurd (some h);
+      usage = λ h. (cc);
       read_fault = λ h. (cc);
       write_fault = λ h. (cc);
       others = λ name h. ap (λ (f : Told). f name) same;
       unread = λ h. (cc);
       not_built = λ h. (cc);
     })
+
+-- the line of words that are no command
+pub meets_usage : (status : Status) (a : Around) → Answers status Usage usage_text a.written a.written_after → (status ≡ WriteFault → Rose a.faults a.faults_after)
+    → status ≢ ReadFault → a.file_after ≡ a.file → Meets None status a
+meets_usage status a gives write read same =
+    record {
+      output = λ tells. gives;
+      stored = λ whole tells. same;
+      readable = λ whole tells. tt;
+      no_command = λ h. is_usage status gives read;
+      usage = λ h. refl;
+      read_fault = λ h. absurd (read h);
+      write_fault = λ h. inr (write h, λ tells. same);
+      others = λ name h. ap (λ (f : Told). f name) same;
+      unread = λ h. absurd (read h);
+      not_built = λ h. absurd (no_other status gives h);
+    }
+  where
+    is_usage : (s : Status) → Answers s Usage usage_text a.written a.written_after → s ≢ ReadFault → IsUsage s
+    is_usage Done g r = (let e = g.0 in cc)
+    is_usage Usage g r = tt
+    is_usage Spent g r = (let e = g.0 in cc)
+    is_usage ReadFault g r = absurd (r refl)
+    is_usage WriteFault g r = tt
+    is_usage NoMemory g r = tt
+    is_usage NotBuilt g r = (let e = g.0 in cc)
+
+    no_other : (s : Status) → Answers s Usage usage_text a.written a.written_after → s ≡ NotBuilt → ⊥
+    no_other Done g h = (cc)
+    no_other Usage g h = (cc)
+    no_other Spent g h = (cc)
+    no_other ReadFault g h = (cc)
+    no_other WriteFault g h = (cc)
+    no_other NoMemory g h = (cc)
+    no_other NotBuilt g h = (let e = g.0 in cc)
+
+appends_nothing : (old new : Option (List ℕ)) → new ≡ old → Appends old new []
+appends_nothing old new h = let P : Option (List ℕ) → Type 0 = λ n. Appends old n [] in subst P (sym h) (Appends_nothing old)
+
+-- a command that isn't built, refused before any fetch
+pub meets_refused : (order : Option Order) (a : Around) → ((files : List ℕ → List ℕ) → outcome order files ≡ not_built) → read_names order ≡ [] → order ≢ None
+    → a.file_after ≡ a.file → a.written_after ≡ a.written → Meets order NotBuilt a
+meets_refused order a refused reads some same nothing =
+    let G : Outcome → Type 0 = λ o. Gives NotBuilt o a.written a.written_after in
+    let S : Outcome → Type 0 = λ o. HasStored (out_name order) o.stored a.file a.file_after in
+    let R : List (List ℕ) → Type 0 = λ l. AreReadable l a.file in
+    record {
+      output = λ tells. subst G (sym (refused (bytes_under a.file))) (refl, appends_nothing a.written a.written_after nothing);
+      stored = λ whole tells. subst S (sym (refused (bytes_under a.file))) same;
+      readable = λ whole tells. subst R (sym reads) tt;
+      no_command = λ h. absurd (some h);
+      usage = λ h. (cc);
+      read_fault = λ h. (cc);
+      write_fault = λ h. (cc);
+      others = λ name h. ap (λ (f : Told). f name) same;
+      unread = λ h. (cc);
+      not_built = λ h. (keeps_same a.written a.written_after nothing, same);
+    }

@@ -3,7 +3,7 @@ use Rattle.std.specs.Prelude.{◌≡◌, ◌≢◌, ℕ, ◌≤◌, ◌⊎◌, L
 use Rattle.std.specs.Io.KnownBytes.{Appends, Keeps}
 use Rattle.plm_io.specs.Causes.{Rose, AppendsFront}
 use Rattle.plmod.specs.declared.status.Status.{Status}
-use Rattle.plmod.specs.declared.status.Status.TheVariants.{Done, Spent, ReadFault, WriteFault, NoMemory, NotBuilt}
+use Rattle.plmod.specs.declared.status.Status.TheVariants.{Done, Usage, Spent, ReadFault, WriteFault, NoMemory, NotBuilt}
 use Rattle.plmod.specs.Words.{Order, read_names, out_name}
 use Rattle.plmod.specs.Outcome.{Outcome, outcome}
 
@@ -25,6 +25,7 @@ Answers ReadFault want bytes old new = Keeps old new
 Answers WriteFault want bytes old new = AppendsFront old new bytes
 Answers NoMemory want bytes old new = AppendsFront old new bytes
 Answers Done want bytes old new = (want ≡ Done) × Appends old new bytes
+Answers Usage want bytes old new = (want ≡ Usage) × Appends old new bytes
 Answers Spent want bytes old new = (want ≡ Spent) × Appends old new bytes
 Answers NotBuilt want bytes old new = (want ≡ NotBuilt) × Appends old new bytes
 
@@ -37,8 +38,16 @@ IsWhole ReadFault = ⊥
 IsWhole WriteFault = ⊥
 IsWhole NoMemory = ⊥
 IsWhole Done = Unit {0}
+IsWhole Usage = Unit {0}
 IsWhole Spent = Unit {0}
 IsWhole NotBuilt = Unit {0}
+
+-- the status of words that are no command, where their line could be written
+abbrev pub IsUsage : Status → Type 0
+IsUsage Usage = Unit {0}
+IsUsage WriteFault = Unit {0}
+IsUsage NoMemory = Unit {0}
+IsUsage _ = ⊥
 
 -- each of these files is there and short enough
 abbrev pub AreReadable : List (List ℕ) → Told → Type 0
@@ -79,8 +88,9 @@ pub record Meets (order : Option Order) (status : Status) (a : Around) : Type 0 
   pub stored : IsWhole status → Tells (read_names order) a.file → HasStored (out_name order) (outcome order (bytes_under a.file)).stored a.file a.file_after
   -- no failed fetch is passed over
   pub readable : IsWhole status → Tells (read_names order) a.file → AreReadable (read_names order) a.file
-  -- words that are no command, whatever the shelf tells
-  pub no_command : order ≡ None → status ≡ NotBuilt
+  -- words that are no command, and no others, have the usage line, whatever the shelf tells
+  pub no_command : order ≡ None → IsUsage status
+  pub usage : status ≡ Usage → order ≡ None
   -- when each fault comes
   pub read_fault : status ≡ ReadFault → AnyRose (read_names order) a.fetches a.fetches_after
   pub write_fault : status ≡ WriteFault → (Rose a.puts a.puts_after × Keeps a.written a.written_after)

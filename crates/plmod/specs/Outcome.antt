@@ -8,7 +8,7 @@ use Rattle.pl_machine.specs.declared.simple.SimpleEnd.{SimpleEnd}
 use Rattle.pl_machine.specs.declared.simple.SimpleEnd.TheVariants.{Exhausted, Spent as OutOfSteps}
 use Rattle.pl_machine.specs.Run.{text_of, end_of}
 use Rattle.plmod.specs.declared.status.Status.{Status}
-use Rattle.plmod.specs.declared.status.Status.TheVariants.{Done, Spent, NotBuilt}
+use Rattle.plmod.specs.declared.status.Status.TheVariants.{Done, Usage, Spent, NotBuilt}
 use Rattle.plmod.specs.Words.{Order, All}
 
 -- what is written, the status, and what is put under the command's name, if anything
@@ -25,6 +25,13 @@ end_line OutOfSteps = codes "budget spent\n"
 abbrev pub status_of : SimpleEnd → Status
 status_of Exhausted = Done
 status_of OutOfSteps = Spent
+
+abbrev pub usage_text : List ℕ
+usage_text = codes "usage: plmod prepare OUT TEXT KNOWN.. , link UNIT.. , run BUDGET GOAL UNIT.. , all BUDGET GOAL TEXT.. , show UNIT.. , grow N BUDGET\n"
+
+-- words that are no command
+abbrev pub usage : Outcome
+usage = record { bytes = usage_text; status = Usage; stored = None }
 
 -- a form that isn't built yet
 abbrev pub not_built : Outcome
@@ -56,5 +63,6 @@ all_outcome budget goal (text ∷ other ∷ texts) = not_built
 
 -- what the words' command gives over these contents of files
 abbrev pub outcome : Option Order → (List ℕ → List ℕ) → Outcome
-outcome None files = not_built
+outcome None files = usage
 outcome (Some (All budget goal texts)) files = all_outcome budget goal (map files texts)
+outcome (Some order) files = not_built

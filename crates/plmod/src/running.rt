@@ -26,6 +26,7 @@ pub fn run_all<O: Sink>(
     ensures output { Gives result (all_outcome budget goal.now contents.now) (O.written out.old) (O.written out.new) }
     ensures write_fault { result ≡ Status.WriteFault → Rose (O.faults out.old) (O.faults out.new) }
     ensures read { result ≢ Status.ReadFault }
+    ensures used { result ≢ Status.Usage }
     ensures not_built { result ≡ Status.NotBuilt → Keeps (O.written out.old) (O.written out.new) }
 {
     match contents {
@@ -40,6 +41,7 @@ fn run_text<O: Sink>(alloc: Global, budget: u64, goal: &[u8], text: &[u8], out: 
     ensures output { Gives result (text_outcome budget goal.now text.now) (O.written out.old) (O.written out.new) }
     ensures write_fault { result ≡ Status.WriteFault → Rose (O.faults out.old) (O.faults out.new) }
     ensures read { result ≢ Status.ReadFault }
+    ensures used { result ≢ Status.Usage }
     ensures not_built { result ≡ Status.NotBuilt → Keeps (O.written out.old) (O.written out.new) }
 {
     let program = match read_simple(alloc, text) {
@@ -70,6 +72,7 @@ fn run_program<O: Sink>(
     ensures output { Gives result (run_outcome program.now goal.now budget) (O.written out.old) (O.written out.new) }
     ensures write_fault { result ≡ Status.WriteFault → Rose (O.faults out.old) (O.faults out.new) }
     ensures read { result ≢ Status.ReadFault }
+    ensures used { result ≢ Status.Usage }
     ensures built { result ≢ Status.NotBuilt }
 {
     match run_simple(alloc, program, goal, budget, out) {
@@ -84,6 +87,7 @@ fn finish<O: Sink>(alloc: Global, end: SimpleEnd, out: &mut O) -> Status
     ensures output { Answers result (status_of end) (end_line end) (O.written out.old) (O.written out.new) }
     ensures write_fault { result ≡ Status.WriteFault → Rose (O.faults out.old) (O.faults out.new) }
     ensures read { result ≢ Status.ReadFault }
+    ensures used { result ≢ Status.Usage }
     ensures built { result ≢ Status.NotBuilt }
 {
     match end {
@@ -93,12 +97,13 @@ fn finish<O: Sink>(alloc: Global, end: SimpleEnd, out: &mut O) -> Status
 }
 
 /// Writes the last line of a command, and answers this status.
-fn put_last<O: Sink>(alloc: Global, line: &[u8], status: Status, out: &mut O) -> Status
+pub fn put_last<O: Sink>(alloc: Global, line: &[u8], status: Status, out: &mut O) -> Status
     requires some { 0 < length line.now }
     requires whole { IsWhole status }
     ensures output { Answers result status line.now (O.written out.old) (O.written out.new) }
     ensures write_fault { result ≡ Status.WriteFault → Rose (O.faults out.old) (O.faults out.new) }
     ensures read { result ≢ Status.ReadFault }
+    ensures used { status ≢ Status.Usage → result ≢ Status.Usage }
     ensures built { status ≢ Status.NotBuilt → result ≢ Status.NotBuilt }
 {
     match out.put(alloc, line) {

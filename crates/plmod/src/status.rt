@@ -5,6 +5,8 @@
 pub enum Status {
     /// The command was done.
     Done = 0,
+    /// The words are no command.
+    Usage = 1,
     /// The run needed a step more than its budget.
     Spent = 7,
     /// A file could not be read.

@@ -44,6 +44,9 @@ fn answer(
     Ok((out, status))
 }
 
+const USAGE: &str =
+    "usage: plmod prepare OUT TEXT KNOWN.. , link UNIT.. , run BUDGET GOAL UNIT.. , all BUDGET GOAL TEXT.. , show UNIT.. , grow N BUDGET\n";
+
 #[test]
 fn runs_simple_texts(rt: HostRuntime) -> Result<(), Fail> {
     let twice = "a :- b, c. b. b. c.";
@@ -55,8 +58,8 @@ fn runs_simple_texts(rt: HostRuntime) -> Result<(), Fail> {
         (twice, "4", "a.", "true ;\ntrue ;\nno more\n", Status::Done),
         ("", "9", "a.", "", Status::NotBuilt),
         ("a :- X.", "9", "a.", "", Status::NotBuilt),
-        ("p.", "x", "p.", "", Status::NotBuilt),
-        ("p.", "18446744073709551616", "p.", "", Status::NotBuilt),
+        ("p.", "x", "p.", USAGE, Status::Usage),
+        ("p.", "18446744073709551616", "p.", USAGE, Status::Usage),
         ("p :- p.", "1000", "p.", "budget spent\n", Status::Spent),
     ];
     for (text, budget, goal, printed, status) in rows {

@@ -1,5 +1,5 @@
 //! All that the program does, over any shelf and sink.
-ghost use Rattle.std.specs.Prelude.{◌≡◌, ◌≢◌, Option, Some, None, [], unwrap_or};
+ghost use Rattle.std.specs.Prelude.{◌≡◌, ◌≢◌, Option, Some, None, [], length, unwrap_or};
 ghost use Rattle.std.specs.Io.KnownBytes.{Appends};
 ghost use Rattle.plm_io.specs.Files.{file_of};
 ghost use Rattle.plmod.specs.Words.{command_of, order_of, All};
@@ -7,10 +7,11 @@ ghost use Rattle.plmod.specs.Outcome.{outcome};
 ghost use Rattle.plmod.specs.Meets.{Meets, bytes_under};
 
 use crate::fetch::{fetch_all, read_status};
-use crate::running::run_all;
+use crate::running::{put_last, run_all};
 use crate::status::Status;
 use crate::words::{Command, Words, read_words};
 use plm_io::{Name, QuietShelf, QuietSink, Shelf, Sink};
+use prep_report::usage_line;
 use std::alloc::Global;
 
 /// Does what the words ask for, over these files and this output. What is written, what is put and
@@ -30,7 +31,7 @@ pub fn plmod<S: Shelf, O: Sink>(alloc: Global, words: &Words, shelf: &mut S, out
     }) }
 {
     match read_words(words) {
-        None => Status::NotBuilt,
+        None => put_last(alloc, usage_line(), Status::Usage, out),
         Some(command) => serve(alloc, command, shelf, out),
     }
 }
@@ -76,10 +77,15 @@ fn serve<S: Shelf, O: Sink>(
             goal,
             texts,
         } => all(alloc, budget, goal, texts, shelf, out),
+        Command::Prepare { .. } => Status::NotBuilt,
+        Command::Link { .. } => Status::NotBuilt,
+        Command::Run { .. } => Status::NotBuilt,
+        Command::Show { .. } => Status::NotBuilt,
+        Command::Grow { .. } => Status::NotBuilt,
     }
 }
 
-/// The command `all`: runs a goal over texts.
+/// The command `all`: runs a goal over texts, of which one alone is built.
 fn all<S: Shelf, O: Sink>(
     alloc: Global,
     budget: u64,
@@ -88,6 +94,34 @@ fn all<S: Shelf, O: Sink>(
     shelf: &mut S,
     out: &mut O,
 ) -> Status
+    ensures meets { Meets (Some (All budget goal.now texts.now)) result (record {
+      file = S.file shelf.old;
+      file_after = S.file shelf.new;
+      fetches = S.fetch_faults shelf.old;
+      fetches_after = S.fetch_faults shelf.new;
+      puts = S.put_faults shelf.old;
+      puts_after = S.put_faults shelf.new;
+      written = O.written out.old;
+      written_after = O.written out.new;
+      faults = O.faults out.old;
+      faults_after = O.faults out.new;
+    }) }
+{
+    match texts {
+        [_] => all_of_one(alloc, budget, goal, texts, shelf, out),
+        _ => Status::NotBuilt,
+    }
+}
+
+fn all_of_one<S: Shelf, O: Sink>(
+    alloc: Global,
+    budget: u64,
+    goal: &Name,
+    texts: &[Name],
+    shelf: &mut S,
+    out: &mut O,
+) -> Status
+    requires { length texts.now ≡ 1 }
     ensures meets { Meets (Some (All budget goal.now texts.now)) result (record {
       file = S.file shelf.old;
       file_after = S.file shelf.new;
