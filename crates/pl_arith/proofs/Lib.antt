@@ -1,0 +1,4 @@
+pub mod Evaluables
+pub mod BitLaws
+pub mod Tasks
+pub mod Numbers

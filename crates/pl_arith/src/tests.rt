@@ -1,0 +1,113 @@
+//! Values at the edges of 64 bits, as another language's integers without a limit give them, and a whole evaluation.
+ghost use Rattle.std.specs.Prelude.{◌≡◌, IfOk, pos};
+ghost use Rattle.pl_terms.specs.Trees.{comp, int, cons, nil};
+
+use crate::evaluable::find_operation;
+use crate::evaluate;
+use crate::number::{apply_one, apply_two};
+use pl_atoms::{NameId, Names, NoMemory};
+use pl_terms::{Cell, Term, TermBuf};
+use pl_unify::Store;
+use std::alloc::Global;
+use std::test::Fail;
+use value_model::{EvalFault, Operation};
+
+const MAX: i64 = i64::MAX;
+
+const MIN: i64 = i64::MIN;
+
+fn of_one(name: &[u8], x: i64) -> Option<Result<i64, EvalFault>> {
+    match find_operation(name, 1)? {
+        Operation::One(op) => Some(apply_one(op, x)),
+        Operation::Two(_) => None,
+    }
+}
+
+fn of_two(name: &[u8], x: i64, y: i64) -> Option<Result<i64, EvalFault>> {
+    match find_operation(name, 2)? {
+        Operation::One(_) => None,
+        Operation::Two(op) => Some(apply_two(op, x, y)),
+    }
+}
+
+type OfOne = (&'static [u8], i64, Result<i64, EvalFault>);
+
+const EDGES_OF_ONE: [OfOne; 8] = [
+    (b"-", MIN, Err(EvalFault::Overflow)),
+    (b"-", MAX, Ok(-9223372036854775807)),
+    (b"abs", MIN, Err(EvalFault::Overflow)),
+    (b"abs", -7, Ok(7)),
+    (b"sign", MIN, Ok(-1)),
+    (b"sign", 0, Ok(0)),
+    (b"\\", MIN, Ok(MAX)),
+    (b"\\", 5, Ok(-6)),
+];
+
+type OfTwo = (&'static [u8], i64, i64, Result<i64, EvalFault>);
+
+const EDGES_OF_TWO: [OfTwo; 28] = [
+    (b"+", MAX, 1, Err(EvalFault::Overflow)),
+    (b"+", MIN, MAX, Ok(-1)),
+    (b"-", MIN, 1, Err(EvalFault::Overflow)),
+    (b"-", 0, MIN, Err(EvalFault::Overflow)),
+    (b"*", 3037000500, 3037000500, Err(EvalFault::Overflow)),
+    (b"*", MIN, -1, Err(EvalFault::Overflow)),
+    (b"*", 4611686018427387904, -2, Ok(MIN)),
+    (b"//", MIN, -1, Err(EvalFault::Overflow)),
+    (b"//", -7, 2, Ok(-3)),
+    (b"//", 7, 0, Err(EvalFault::ZeroDivisor)),
+    (b"rem", MIN, -1, Ok(0)),
+    (b"rem", -7, 2, Ok(-1)),
+    (b"rem", 7, -2, Ok(1)),
+    (b"mod", MIN, -1, Ok(0)),
+    (b"mod", -7, 2, Ok(1)),
+    (b"mod", 7, -2, Ok(-1)),
+    (b"mod", MIN, MAX, Ok(9223372036854775806)),
+    (b"<<", -1, 63, Ok(MIN)),
+    (b"<<", 1, 63, Err(EvalFault::Overflow)),
+    (b"<<", 0, 64, Err(EvalFault::Undefined)),
+    (b"<<", 1, -1, Err(EvalFault::Undefined)),
+    (b">>", MIN, 63, Ok(-1)),
+    (b">>", -5, 1, Ok(-3)),
+    (b">>", 1, 64, Err(EvalFault::Undefined)),
+    (b"/\\", MIN, -1, Ok(MIN)),
+    (b"/\\", -4, 7, Ok(4)),
+    (b"\\/", MIN, MAX, Ok(-1)),
+    (b"\\/", -4, 1, Ok(-3)),
+];
+
+#[test]
+fn edges_of_one(rt: HostRuntime) {
+    for (name, x, value) in &EDGES_OF_ONE {
+        assert_eq!(rt; of_one(name, *x), Some(*value), "at {x}");
+    }
+}
+
+#[test]
+fn edges_of_two(rt: HostRuntime) {
+    for (name, x, y, value) in &EDGES_OF_TWO {
+        assert_eq!(rt; of_two(name, *x, *y), Some(*value), "at {x} and {y}");
+    }
+}
+
+// 3 - 5, where the name is that of -.
+fn difference(alloc: Global, minus: NameId) -> Result<Term, NoMemory>
+    ensures { IfOk result (λ t. t ≡ comp minus.0 (cons (int (pos 3)) (cons (int (pos 5)) nil))) }
+{
+    let mut cells = TermBuf::new(alloc);
+    cells.push(Cell::Comp(minus, 2))?;
+    cells.push(Cell::Int(3))?;
+    cells.push(Cell::Int(5))?;
+    Ok(cells.end_whole())
+}
+
+#[test]
+fn a_term_is_evaluated(rt: HostRuntime) -> Result<(), Fail> {
+    let mut names = Names::new(rt.alloc());
+    let minus = names.intern(b"-")?;
+    let term = difference(rt.alloc(), minus)?;
+    let mut store = Store::new(rt.alloc());
+    let at = store.load(&term, 0)?;
+    assert_eq!(rt; evaluate(rt.alloc(), &store, &names, at), Ok(-2));
+    Ok(())
+}
