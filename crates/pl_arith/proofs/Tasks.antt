@@ -1,6 +1,6 @@
 -- Steps of an evaluation.
-use Rattle.std.proofs.Common.{◌≡◌, ◌∙◌, ℕ, ℤ, zero, suc, ◌<◌, List, [], ◌∷◌, ◌++◌, reverse, length, refl, ap, sym, subst, Some, None, Result, Ok, Err, arith}
-use Rattle.std.proofs.lemmas.List.{reverse-append, length-reverse}
+use Rattle.std.proofs.Common.{◌≡◌, ◌∙◌, ℕ, ℤ, ◌<◌, List, [], ◌∷◌, ◌++◌, reverse, refl, ap, sym, subst, Some, None, Result, Ok, Err, arith}
+use Rattle.std.proofs.lemmas.List.{reverse-append}
 use Rattle.pl_atoms.specs.declared.names.NameId.{NameId}
 use Rattle.pl_terms.specs.Trees.{Tree, Trees, var, int, atom, comp, nil, cons, count}
 use Rattle.run_model.specs.Substitution.{size}
@@ -18,7 +18,7 @@ use Rattle.value_model.specs.Value.{value, values, apply_one, apply_two, operati
 use Rattle.pl_terms.specs.NameBounds.{NamesBelow}
 use Rattle.pl_arith.specs.declared.expression.Task.{Task}
 use Rattle.pl_arith.specs.declared.expression.Task.TheVariants as T
-use Rattle.pl_arith.specs.Tasks.{pushed, done_one, done_two, onwards, run, Stepped, LeavesOne, weights}
+use Rattle.pl_arith.specs.Tasks.{pushed, done_two, onwards, run, Stepped, weights}
 use Rattle.pl_arith.proofs.Evaluables.{operation_of-arity}
 
 pub two_popped : (old mid rest : List ℤ) (x y : ℤ) → old ≡ mid ++ y ∷ [] → mid ≡ rest ++ x ∷ [] → reverse old ≡ y ∷ x ∷ reverse rest
@@ -161,54 +161,3 @@ done_pair old mid rest new x y z op e f g h =
 
 pub done_fault : (old mid rest : List ℤ) (x y : ℤ) (op : Binary) (e : EvalFault) → old ≡ mid ++ y ∷ [] → mid ≡ rest ++ x ∷ [] → Err e ≡ apply_two op x y → done_two op (reverse old) ≡ Err e
 done_fault old mid rest x y op e a b g = ap (done_two op) (two_popped old mid rest x y a b) ∙ ap (λ r. pushed r (reverse rest)) (sym g)
-
--- an operation that was done leaves what the other tasks take
-pub stepped_one_done : (s : State) (names : List (List ℕ)) (op : Unary) (ts : List Task) (had has : List ℤ) → done_one op had ≡ Ok has → Stepped s names (T.One op ∷ ts) had ts has
-stepped_one_done s names op ts had has e =
-    record {
-      same = ap (λ r. onwards r (run s names ts)) (sym e);
-      ok = λ n h. h.1;
-      one_left = left had e;
-      smaller = omega arith;
-    }
-  where
-    left : (had : List ℤ) → done_one op had ≡ Ok has → LeavesOne (T.One op ∷ ts) (length had) → LeavesOne ts (length has)
-    left [] e h = absurd h
-    left (x ∷ zs) e h = by (apply_one op x) e
-      where
-        by : (r : Result ℤ EvalFault) → pushed r zs ≡ Ok has → LeavesOne ts (length has)
-        by (Ok z) e = let is : z ∷ zs ≡ has = cc in subst (λ l. LeavesOne ts (length l)) is h
-        by (Err f) e = absurd cc
-
-pub stepped_two_done : (s : State) (names : List (List ℕ)) (op : Binary) (ts : List Task) (had has : List ℤ) → done_two op had ≡ Ok has → Stepped s names (T.Two op ∷ ts) had ts has
-stepped_two_done s names op ts had has e =
-    record {
-      same = ap (λ r. onwards r (run s names ts)) (sym e);
-      ok = λ n h. h.1;
-      one_left = left had e;
-      smaller = omega arith;
-    }
-  where
-    left : (had : List ℤ) → done_two op had ≡ Ok has → LeavesOne (T.Two op ∷ ts) (length had) → LeavesOne ts (length has)
-    left [] e h = absurd h
-    left (y ∷ []) e h = absurd h
-    left (y ∷ x ∷ zs) e h = by (apply_two op x y) e
-      where
-        by : (r : Result ℤ EvalFault) → pushed r zs ≡ Ok has → LeavesOne ts (length has)
-        by (Ok z) e = let is : z ∷ zs ≡ has = cc in subst (λ l. LeavesOne ts (length l)) is h
-        by (Err f) e = absurd cc
-
-needs_one : (op : Unary) (ts : List Task) (n : ℕ) → LeavesOne (T.One op ∷ ts) n → 0 < n
-needs_one op ts zero h = absurd h
-needs_one op ts (suc n) h = omega arith
-
-needs_two : (op : Binary) (ts : List Task) (n : ℕ) → LeavesOne (T.Two op ∷ ts) n → 1 < n
-needs_two op ts zero h = absurd h
-needs_two op ts (suc zero) h = absurd h
-needs_two op ts (suc (suc n)) h = omega arith
-
-pub one_there : (op : Unary) (ts : List Task) (zs : List ℤ) → LeavesOne (T.One op ∷ ts) (length (reverse zs)) → 0 < length zs
-one_there op ts zs h = omega (arith, needs_one op ts (length (reverse zs)) h, length-reverse zs)
-
-pub two_there : (op : Binary) (ts : List Task) (zs : List ℤ) → LeavesOne (T.Two op ∷ ts) (length (reverse zs)) → 1 < length zs
-two_there op ts zs h = omega (arith, needs_two op ts (length (reverse zs)) h, length-reverse zs)
