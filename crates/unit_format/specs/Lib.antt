@@ -1,0 +1,9 @@
+pub mod Units
+pub mod Reading
+pub mod Views
+pub mod Decoding
+pub mod Counting
+pub mod Uses
+pub mod Bodies
+pub mod Spelling
+pub mod Rules
