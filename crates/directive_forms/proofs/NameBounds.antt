@@ -1,7 +1,8 @@
 -- Names in a table that grows.
-use Rattle.std.proofs.Common.{◌≡◌, ℕ, ◌<◌, ◌≤◌, List, length, arith, ap, ◌∙◌, refl, sym, subst, nat_lt, Bool, true, false, Some, None}
+use Rattle.std.proofs.Common.{◌≡◌, ℕ, ◌<◌, ◌≤◌, List, length, arith, ap, ◌∙◌, refl, sym, subst, nat_lt, Bool, true, false, Option, Some, None}
 use Rattle.std.proofs.lemmas.Bool.{ltb-true, ltb-false, false≢true}
 use Rattle.pl_terms.specs.Trees.{Tree, var, int, atom, comp, Trees, nil, cons, count, append, all_renamed}
+use Rattle.pl_atoms.specs.declared.names.NameId.{NameId}
 use Rattle.pl_terms.specs.declared.cell.Cell.{Cell}
 use Rattle.pl_terms.specs.declared.cell.Cell.TheVariants.{Var, Int, Name, Comp}
 use Rattle.pl_terms.specs.Order.{text_of, texts_of}
@@ -91,6 +92,21 @@ module _ (n : ℕ) where
   below_none (cons (int z) ts) h = absurd (cc)
   below_none (cons (atom s) ts) h = absurd (cc)
   below_none (cons (comp s vs) ts) h = absurd (cc)
+
+  -- the names of the first cell
+  pub name_below : (ts us : Trees ℕ) (c : Option Cell) (s : NameId) → us ≡ ts → c ≡ first_cell us → c ≡ Some (Name s) → AllNamesBelow n ts → s.0 < n
+  name_below nil us c s same e is k = let empty : ◌≡◌ {A = Option Cell} None (Some (Name s)) = sym (e ∙ ap first_cell same) ∙ is in absurd (cc)
+  name_below (cons (var m) ts) us c s same e is k = let other : Some (Var m) ≡ Some (Name s) = sym (e ∙ ap first_cell same) ∙ is in absurd (cc)
+  name_below (cons (int z) ts) us c s same e is k = let other : Some (Int z) ≡ Some (Name s) = sym (e ∙ ap first_cell same) ∙ is in absurd (cc)
+  name_below (cons (atom r) ts) us c s same e is k = let that : Some (Name (record { 0 = r })) ≡ Some (Name s) = sym (e ∙ ap first_cell same) ∙ is in let number : r ≡ s.0 = cc in subst (λ m. m < n) number k.0
+  name_below (cons (comp r vs) ts) us c s same e is k = let other : Some (Comp (record { 0 = r }) (count vs)) ≡ Some (Name s) = sym (e ∙ ap first_cell same) ∙ is in absurd (cc)
+
+  pub functor_below : (ts us : Trees ℕ) (c : Option Cell) (s : NameId) (a : ℕ) → us ≡ ts → c ≡ first_cell us → c ≡ Some (Comp s a) → AllNamesBelow n ts → s.0 < n
+  functor_below nil us c s a same e is k = let empty : ◌≡◌ {A = Option Cell} None (Some (Comp s a)) = sym (e ∙ ap first_cell same) ∙ is in absurd (cc)
+  functor_below (cons (var m) ts) us c s a same e is k = let other : Some (Var m) ≡ Some (Comp s a) = sym (e ∙ ap first_cell same) ∙ is in absurd (cc)
+  functor_below (cons (int z) ts) us c s a same e is k = let other : Some (Int z) ≡ Some (Comp s a) = sym (e ∙ ap first_cell same) ∙ is in absurd (cc)
+  functor_below (cons (atom r) ts) us c s a same e is k = let other : Some (Name (record { 0 = r })) ≡ Some (Comp s a) = sym (e ∙ ap first_cell same) ∙ is in absurd (cc)
+  functor_below (cons (comp r vs) ts) us c s a same e is k = let that : Some (Comp (record { 0 = r }) (count vs)) ≡ Some (Comp s a) = sym (e ∙ ap first_cell same) ∙ is in let number : r ≡ s.0 = cc in subst (λ m. m < n) number k.0.0
 
   -- one cell further
   pub record Passed (start ts us : Trees ℕ) : Type 0 where

@@ -1,7 +1,8 @@
 //! Indicators and mode terms.
-ghost use Rattle.std.specs.Prelude.{◌≡◌, ℕ, List, IfOk, option_map};
+ghost use Rattle.std.specs.Prelude.{◌≡◌, ℕ, ◌<◌, List, IfOk, IfSome, option_map};
 ghost use Rattle.pl_terms.specs.Order.{text_of, texts_of};
 ghost use Rattle.pl_terms.specs.Cells.{first};
+ghost use Rattle.pl_terms.specs.NameBounds.{AllNamesBelow};
 ghost use Rattle.unit_model.specs.Directives.{small, indicator_in, mode_term_in};
 ghost use Rattle.directive_forms.specs.Walks.{first_cell, entered};
 ghost use Rattle.directive_forms.specs.Items.{indicator_text, indicator_of, mode_term_text, mode_of, front_modes};
@@ -21,7 +22,8 @@ pub struct ModeTerm {
 
 /// The indicator that stands next: an atom and an integer from 0 to 255 under `/`. None exactly where none does.
 pub fn indicator(walk: &Walk<'_>, names: &Names) -> Option<Ind>
-    ensures { option_map (indicator_text (text_of names.now)) result ≡ indicator_in (texts_of names.now (first walk.now)) }
+    ensures form { option_map (indicator_text (text_of names.now)) result ≡ indicator_in (texts_of names.now (first walk.now)) }
+    ensures below { (n : ℕ) → AllNamesBelow n walk.now → IfSome result (λ i. i.name.0 < n) }
 {
     if walk.is_functor(names, b"/", 2) {
         indicator_parts(walk.again())
@@ -32,7 +34,8 @@ pub fn indicator(walk: &Walk<'_>, names: &Names) -> Option<Ind>
 
 // The indicator of the two arguments that follow the next cell.
 fn indicator_parts(mut walk: Walk<'_>) -> Option<Ind>
-    ensures { (f : ℕ → List ℕ) → option_map (indicator_text f) result ≡ indicator_of f (first_cell (entered walk.entry)) (first_cell (entered (entered walk.entry))) }
+    ensures form { (f : ℕ → List ℕ) → option_map (indicator_text f) result ≡ indicator_of f (first_cell (entered walk.entry)) (first_cell (entered (entered walk.entry))) }
+    ensures below { (n : ℕ) → AllNamesBelow n walk.entry → IfSome result (λ i. i.name.0 < n) }
 {
     walk.enter();
     let name = walk.peek();
@@ -64,7 +67,8 @@ pub fn mode_term(
     walk: &Walk<'_>,
     names: &Names,
 ) -> Result<Option<ModeTerm>, NoMemory>
-    ensures { IfOk result (λ found. option_map (mode_term_text (text_of names.now)) found ≡ mode_term_in (texts_of names.now (first walk.now))) }
+    ensures form { IfOk result (λ found. option_map (mode_term_text (text_of names.now)) found ≡ mode_term_in (texts_of names.now (first walk.now))) }
+    ensures below { (n : ℕ) → AllNamesBelow n walk.now → IfOk result (λ found. IfSome found (λ m. m.name.0 < n)) }
 {
     let mut args = walk.again();
     let Some(Cell::Comp(name, count)) = args.peek() else {

@@ -1,5 +1,5 @@
 -- Files that were fetched, and what the commands over them promise.
-use Rattle.std.proofs.Common.{arith, ◌≡◌, ◌≢◌, ℕ, ◌+◌, ◌<◌, List, [], ◌∷◌, ◌++◌, Option, Some, None, MatchOption, IfSome, take, length, map, get_or, unwrap_or, refl, sym, ap, ◌∙◌, subst, inr}
+use Rattle.std.proofs.Common.{arith, ◌≡◌, ◌≢◌, ℕ, ◌+◌, ◌<◌, List, [], ◌∷◌, ◌++◌, Option, Some, None, MatchOption, IfSome, take, length, map, get_or, unwrap_or, refl, sym, ap, ◌∙◌, subst, ◌⊎◌, inl, inr}
 use Rattle.std.proofs.lemmas.List.{take_more}
 use Rattle.std.specs.Io.KnownBytes.{Appends, Keeps}
 use Rattle.plm_io.specs.Causes.{Rose, AppendsFront}
@@ -7,9 +7,10 @@ use Rattle.plm_io.proofs.FrontLaws.{front_of_nothing, Appends_nothing}
 use Rattle.plm_io.specs.declared.traits.IoFault.{IoFault}
 use Rattle.plm_io.specs.declared.traits.IoFault.TheVariants.{Failed, NoMemory as OutOfMemory}
 use Rattle.plmod.specs.declared.status.Status.{Status}
-use Rattle.plmod.specs.declared.status.Status.TheVariants.{Done, Usage, Spent, ReadFault, WriteFault, NoMemory, NotBuilt}
+use Rattle.plmod.specs.declared.status.Status.TheVariants.{Done, Usage, PrepFault, NotUnit, Spent, ReadFault, WriteFault, NoMemory, NotBuilt}
 use Rattle.plmod.specs.Words.{Order, All, read_names, out_name}
-use Rattle.plmod.specs.Outcome.{Outcome, outcome, usage_text, not_built, all_outcome}
+use Rattle.plmod.specs.Outcome.{Outcome, usage, usage_text, not_built, all_outcome}
+use Rattle.plmod.specs.Comes.{Comes}
 use Rattle.plmod.specs.Meets.{Answers, IsUsage, Told, Tells, bytes_under, Gives, AreReadable, AnyRose, HasStored, Around, Meets}
 use Rattle.plmod.specs.Fetched.{IsUnder, AreUnder}
 
@@ -67,23 +68,23 @@ meets_all budget goal [] contents status a one under gives write read not_built 
 meets_all budget goal (text ∷ other ∷ texts) contents status a one under gives write read not_built used same = absurd (omega arith)
 meets_all budget goal (text ∷ []) contents status a one under gives write read not_built used same =
     record {
-      output = λ tells. (let P : List (List ℕ) → Type 0 = λ l. Gives status (all_outcome budget goal l) a.written a.written_after in subst P (sym (bytes_all a.file (text ∷ []) contents tells under)) gives);
-      stored = λ whole tells. no_out _ a.file a.file_after same;
+      output = λ tells o h. (let P : Outcome → Type 0 = λ p. Gives status p a.written a.written_after in subst P (sym (h ∙ ap (all_outcome budget goal) (bytes_all a.file (text ∷ []) contents tells under))) gives);
+      stored = λ whole tells o h. no_out o.stored a.file a.file_after same;
       readable = λ whole tells. readable_all a.file (text ∷ []) contents tells under;
       no_command = λ h. absurd (cc);
       usage = λ h. absurd (used h);
       read_fault = λ h. absurd (read h);
-      write_fault = λ h. inr (write h, λ tells. no_out _ a.file a.file_after same);
+      write_fault = λ h. inr (write h, λ tells o k. no_out o.stored a.file a.file_after same);
       others = λ name h. ap (λ (f : Told). f name) same;
       unread = λ h. absurd (read h);
       not_built = λ h. (not_built h, same);
     }
 
-keeps_same : (old new : Option (List ℕ)) → new ≡ old → Keeps old new
+pub keeps_same : (old new : Option (List ℕ)) → new ≡ old → Keeps old new
 keeps_same None new h = tt
 keeps_same (Some xs) new h = let P : Option (List ℕ) → Type 0 = λ n. Keeps (Some xs) n in subst P (sym h) refl
 
-front_same : (old new : Option (List ℕ)) (bytes : List ℕ) → new ≡ old → AppendsFront old new bytes
+pub front_same : (old new : Option (List ℕ)) (bytes : List ℕ) → new ≡ old → AppendsFront old new bytes
 front_same old new bytes h = let P : Option (List ℕ) → Type 0 = λ n. AppendsFront old n bytes in subst P (sym h) (front_of_nothing old bytes)
 
 -- a read that failed, before anything was written or put
@@ -92,7 +93,7 @@ pub meets_unread : (order : Option Order) (fault : IoFault) (status : Status) (a
 meets_unread order Failed status a failed memory some any same nothing =
     let P : Status → Type 0 = λ s. Meets order s a in
     subst P (sym (failed refl)) (record {
-      output = λ tells. keeps_same a.written a.written_after nothing;
+      output = λ tells o h. keeps_same a.written a.written_after nothing;
       stored = λ whole. absurd whole;
       readable = λ whole. absurd whole;
       no_command = λ h. absurd (some h);
@@ -106,7 +107,7 @@ meets_unread order Failed status a failed memory some any same nothing =
 meets_unread order OutOfMemory status a failed memory some any same nothing =
     let P : Status → Type 0 = λ s. Meets order s a in
     subst P (sym (memory refl)) (record {
-      output = λ tells. front_same a.written a.written_after _ nothing;
+      output = λ tells o h. front_same a.written a.written_after _ nothing;
       stored = λ whole. absurd whole;
       readable = λ whole. absurd whole;
       no_command = λ h. absurd (some h);
@@ -123,13 +124,13 @@ pub meets_usage : (status : Status) (a : Around) → Answers status Usage usage_
     → status ≢ ReadFault → a.file_after ≡ a.file → Meets None status a
 meets_usage status a gives write read same =
     record {
-      output = λ tells. gives;
-      stored = λ whole tells. same;
+      output = λ tells o h. (let P : Outcome → Type 0 = λ p. Gives status p a.written a.written_after in subst P (sym h) gives);
+      stored = λ whole tells o h. no_out o.stored a.file a.file_after same;
       readable = λ whole tells. tt;
       no_command = λ h. is_usage status gives read;
       usage = λ h. refl;
       read_fault = λ h. absurd (read h);
-      write_fault = λ h. inr (write h, λ tells. same);
+      write_fault = λ h. inr (write h, λ tells o k. no_out o.stored a.file a.file_after same);
       others = λ name h. ap (λ (f : Told). f name) same;
       unread = λ h. absurd (read h);
       not_built = λ h. absurd (no_other status gives h);
@@ -138,6 +139,8 @@ meets_usage status a gives write read same =
     is_usage : (s : Status) → Answers s Usage usage_text a.written a.written_after → s ≢ ReadFault → IsUsage s
     is_usage Done g r = (let e = g.0 in cc)
     is_usage Usage g r = tt
+    is_usage PrepFault g r = (let e = g.0 in cc)
+    is_usage NotUnit g r = (let e = g.0 in cc)
     is_usage Spent g r = (let e = g.0 in cc)
     is_usage ReadFault g r = absurd (r refl)
     is_usage WriteFault g r = tt
@@ -147,6 +150,8 @@ meets_usage status a gives write read same =
     no_other : (s : Status) → Answers s Usage usage_text a.written a.written_after → s ≡ NotBuilt → ⊥
     no_other Done g h = (cc)
     no_other Usage g h = (cc)
+    no_other PrepFault g h = (cc)
+    no_other NotUnit g h = (cc)
     no_other Spent g h = (cc)
     no_other ReadFault g h = (cc)
     no_other WriteFault g h = (cc)
@@ -157,15 +162,15 @@ appends_nothing : (old new : Option (List ℕ)) → new ≡ old → Appends old 
 appends_nothing old new h = let P : Option (List ℕ) → Type 0 = λ n. Appends old n [] in subst P (sym h) (Appends_nothing old)
 
 -- a command that isn't built, refused before any fetch
-pub meets_refused : (order : Option Order) (a : Around) → ((files : List ℕ → List ℕ) → outcome order files ≡ not_built) → read_names order ≡ [] → order ≢ None
+pub meets_refused : (order : Option Order) (a : Around) → ((files : List ℕ → List ℕ) (o : Outcome) → Comes order files o → o ≡ not_built) → read_names order ≡ [] → order ≢ None
     → a.file_after ≡ a.file → a.written_after ≡ a.written → Meets order NotBuilt a
 meets_refused order a refused reads some same nothing =
     let G : Outcome → Type 0 = λ o. Gives NotBuilt o a.written a.written_after in
     let S : Outcome → Type 0 = λ o. HasStored (out_name order) o.stored a.file a.file_after in
     let R : List (List ℕ) → Type 0 = λ l. AreReadable l a.file in
     record {
-      output = λ tells. subst G (sym (refused (bytes_under a.file))) (refl, appends_nothing a.written a.written_after nothing);
-      stored = λ whole tells. subst S (sym (refused (bytes_under a.file))) same;
+      output = λ tells o h. subst G (sym (refused (bytes_under a.file) o h)) (refl, appends_nothing a.written a.written_after nothing);
+      stored = λ whole tells o h. subst S (sym (refused (bytes_under a.file) o h)) same;
       readable = λ whole tells. subst R (sym reads) tt;
       no_command = λ h. absurd (some h);
       usage = λ h. (cc);
@@ -175,3 +180,26 @@ meets_refused order a refused reads some same nothing =
       unread = λ h. (cc);
       not_built = λ h. (keeps_same a.written a.written_after nothing, same);
     }
+
+-- a shelf that tells of each name
+pub tells_all : (names : List (List ℕ)) (file : Told) → ((name : List ℕ) → MatchOption (file name) ⊥ (λ _. Unit {0})) → Tells names file
+tells_all [] file h = tt
+tells_all (n ∷ names) file h = (h n, tells_all names file h)
+
+-- all was written where nothing failed
+pub answers_appends : (status want : Status) (bytes : List ℕ) (old new : Option (List ℕ)) → status ≢ ReadFault → status ≢ WriteFault → status ≢ NoMemory
+    → Answers status want bytes old new → Appends old new bytes
+answers_appends ReadFault want bytes old new r w m h = absurd (r refl)
+answers_appends WriteFault want bytes old new r w m h = absurd (w refl)
+answers_appends NoMemory want bytes old new r w m h = absurd (m refl)
+answers_appends Done want bytes old new r w m h = h.1
+answers_appends Usage want bytes old new r w m h = h.1
+answers_appends PrepFault want bytes old new r w m h = h.1
+answers_appends NotUnit want bytes old new r w m h = h.1
+answers_appends Spent want bytes old new r w m h = h.1
+answers_appends NotBuilt want bytes old new r w m h = h.1
+
+-- counts that stay 0 have not risen
+pub no_faults : {A B : Type 0} → (Rose 0 0 × A) ⊎ (Rose 0 0 × B) → ⊥
+no_faults (inl k) = (let e = k.0 in omega (arith, e))
+no_faults (inr k) = (let e = k.0 in omega (arith, e))

@@ -4,7 +4,7 @@ use Rattle.std.specs.Io.KnownBytes.{Appends}
 use Rattle.plm_io.proofs.FrontLaws.{Appends-append, front_of_second}
 use Rattle.pl_machine.specs.declared.simple.SimpleEnd.{SimpleEnd}
 use Rattle.plmod.specs.declared.status.Status.{Status}
-use Rattle.plmod.specs.declared.status.Status.TheVariants.{Done, Usage, Spent, ReadFault, WriteFault, NoMemory, NotBuilt}
+use Rattle.plmod.specs.declared.status.Status.TheVariants.{Done, Usage, PrepFault, NotUnit, Spent, ReadFault, WriteFault, NoMemory, NotBuilt}
 use Rattle.plmod.specs.Outcome.{end_line, status_of}
 use Rattle.plmod.specs.Meets.{Answers}
 
@@ -13,6 +13,8 @@ pub answers_after : (status want : Status) (first second : List ℕ) (old mid ne
     → Appends old mid first → Answers status want second mid new → Answers status want (first ++ second) old new
 answers_after Done want first second old mid new r p q = (q.0, Appends-append old mid new first second p q.1)
 answers_after Usage want first second old mid new r p q = (q.0, Appends-append old mid new first second p q.1)
+answers_after PrepFault want first second old mid new r p q = (q.0, Appends-append old mid new first second p q.1)
+answers_after NotUnit want first second old mid new r p q = (q.0, Appends-append old mid new first second p q.1)
 answers_after Spent want first second old mid new r p q = (q.0, Appends-append old mid new first second p q.1)
 answers_after NotBuilt want first second old mid new r p q = (q.0, Appends-append old mid new first second p q.1)
 answers_after WriteFault want first second old mid new r p q = front_of_second old mid new first second p q

@@ -1,4 +1,9 @@
 pub mod Words
 pub mod Outcome
+pub mod Prepares
+pub mod Comes
 pub mod Meets
 pub mod Fetched
+pub mod MadeOutcome
+pub mod Gathering
+pub mod Knowing

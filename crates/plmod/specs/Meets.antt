@@ -3,9 +3,10 @@ use Rattle.std.specs.Prelude.{◌≡◌, ◌≢◌, ℕ, ◌≤◌, ◌⊎◌, L
 use Rattle.std.specs.Io.KnownBytes.{Appends, Keeps}
 use Rattle.plm_io.specs.Causes.{Rose, AppendsFront}
 use Rattle.plmod.specs.declared.status.Status.{Status}
-use Rattle.plmod.specs.declared.status.Status.TheVariants.{Done, Usage, Spent, ReadFault, WriteFault, NoMemory, NotBuilt}
+use Rattle.plmod.specs.declared.status.Status.TheVariants.{Done, Usage, PrepFault, NotUnit, Spent, ReadFault, WriteFault, NoMemory, NotBuilt}
 use Rattle.plmod.specs.Words.{Order, read_names, out_name}
-use Rattle.plmod.specs.Outcome.{Outcome, outcome}
+use Rattle.plmod.specs.Outcome.{Outcome}
+use Rattle.plmod.specs.Comes.{Comes}
 
 -- what a shelf has under each name, where it tells
 abbrev pub Told : Type 0
@@ -26,6 +27,8 @@ Answers WriteFault want bytes old new = AppendsFront old new bytes
 Answers NoMemory want bytes old new = AppendsFront old new bytes
 Answers Done want bytes old new = (want ≡ Done) × Appends old new bytes
 Answers Usage want bytes old new = (want ≡ Usage) × Appends old new bytes
+Answers PrepFault want bytes old new = (want ≡ PrepFault) × Appends old new bytes
+Answers NotUnit want bytes old new = (want ≡ NotUnit) × Appends old new bytes
 Answers Spent want bytes old new = (want ≡ Spent) × Appends old new bytes
 Answers NotBuilt want bytes old new = (want ≡ NotBuilt) × Appends old new bytes
 
@@ -39,6 +42,8 @@ IsWhole WriteFault = ⊥
 IsWhole NoMemory = ⊥
 IsWhole Done = Unit {0}
 IsWhole Usage = Unit {0}
+IsWhole PrepFault = Unit {0}
+IsWhole NotUnit = Unit {0}
 IsWhole Spent = Unit {0}
 IsWhole NotBuilt = Unit {0}
 
@@ -68,6 +73,10 @@ HasStored out None old new = new ≡ old
 HasStored None (Some bytes) old new = new ≡ old
 HasStored (Some out) (Some bytes) old new = new out ≡ option_map (λ _. Some bytes) (old out)
 
+-- the files are those of the command's outcome
+abbrev pub Stores : Option Order → Told → Told → Type 0
+Stores order old new = (o : Outcome) → Comes order (bytes_under old) o → HasStored (out_name order) o.stored old new
+
 -- a shelf and a sink, before and after a call
 pub record Around : Type 0 where
   pub file : Told
@@ -83,9 +92,9 @@ pub record Around : Type 0 where
 
 pub record Meets (order : Option Order) (status : Status) (a : Around) : Type 0 where
   -- what is written and answered is a function of the command and the files
-  pub output : Tells (read_names order) a.file → Gives status (outcome order (bytes_under a.file)) a.written a.written_after
+  pub output : Tells (read_names order) a.file → (o : Outcome) → Comes order (bytes_under a.file) o → Gives status o a.written a.written_after
   -- so are the files
-  pub stored : IsWhole status → Tells (read_names order) a.file → HasStored (out_name order) (outcome order (bytes_under a.file)).stored a.file a.file_after
+  pub stored : IsWhole status → Tells (read_names order) a.file → Stores order a.file a.file_after
   -- no failed fetch is passed over
   pub readable : IsWhole status → Tells (read_names order) a.file → AreReadable (read_names order) a.file
   -- words that are no command, and no others, have the usage line, whatever the shelf tells
@@ -94,7 +103,7 @@ pub record Meets (order : Option Order) (status : Status) (a : Around) : Type 0 
   -- when each fault comes
   pub read_fault : status ≡ ReadFault → AnyRose (read_names order) a.fetches a.fetches_after
   pub write_fault : status ≡ WriteFault → (Rose a.puts a.puts_after × Keeps a.written a.written_after)
-      ⊎ (Rose a.faults a.faults_after × (Tells (read_names order) a.file → HasStored (out_name order) (outcome order (bytes_under a.file)).stored a.file a.file_after))
+      ⊎ (Rose a.faults a.faults_after × (Tells (read_names order) a.file → Stores order a.file a.file_after))
   -- what stays
   pub others : KeepsOthers (out_name order) a.file a.file_after
   pub unread : status ≡ ReadFault → Keeps a.written a.written_after × (a.file_after ≡ a.file)

@@ -1,5 +1,5 @@
 -- What a command writes, puts and answers.
-use Rattle.std.specs.Prelude.{ℕ, List, [], ◌∷◌, ◌++◌, Option, Some, None, codes, if◌then◌else◌, map}
+use Rattle.std.specs.Prelude.{ℕ, List, [], ◌∷◌, ◌++◌, Option, Some, None, codes, if◌then◌else◌}
 use Rattle.search_model.specs.declared.simple.SimpleClause.{SimpleClause}
 use Rattle.search_model.specs.Search.{run_of}
 use Rattle.search_model.specs.Closed.{is_closed}
@@ -9,7 +9,6 @@ use Rattle.pl_machine.specs.declared.simple.SimpleEnd.TheVariants.{Exhausted, Sp
 use Rattle.pl_machine.specs.Run.{text_of, end_of}
 use Rattle.plmod.specs.declared.status.Status.{Status}
 use Rattle.plmod.specs.declared.status.Status.TheVariants.{Done, Usage, Spent, NotBuilt}
-use Rattle.plmod.specs.Words.{Order, All}
 
 -- what is written, the status, and what is put under the command's name, if anything
 pub record Outcome : Type 0 where
@@ -60,9 +59,3 @@ abbrev pub all_outcome : ℕ → List ℕ → List (List ℕ) → Outcome
 all_outcome budget goal [] = not_built
 all_outcome budget goal (text ∷ []) = text_outcome budget goal text
 all_outcome budget goal (text ∷ other ∷ texts) = not_built
-
--- what the words' command gives over these contents of files
-abbrev pub outcome : Option Order → (List ℕ → List ℕ) → Outcome
-outcome None files = usage
-outcome (Some (All budget goal texts)) files = all_outcome budget goal (map files texts)
-outcome (Some order) files = not_built

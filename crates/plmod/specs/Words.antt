@@ -75,9 +75,11 @@ command_of (word ∷ rest) =
 
 -- the names that a command reads, in order; a form that isn't built reads none
 abbrev pub read_names : Option Order → List (List ℕ)
+read_names (Some (Prepare out text known)) = text ∷ known
 read_names (Some (All budget goal (text ∷ []))) = text ∷ []
 read_names _ = []
 
 -- the name that a command may put
 abbrev pub out_name : Option Order → Option (List ℕ)
+out_name (Some (Prepare out text known)) = Some out
 out_name _ = None

@@ -2,6 +2,9 @@
 #![tactic(auto)]
 
 mod fetch;
+mod laws;
+mod made;
+mod preparing;
 mod running;
 mod status;
 mod top;

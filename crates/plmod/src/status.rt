@@ -7,6 +7,10 @@ pub enum Status {
     Done = 0,
     /// The words are no command.
     Usage = 1,
+    /// A text has a fault, or its unit would be too long.
+    PrepFault = 2,
+    /// A file that is to be a unit is none.
+    NotUnit = 3,
     /// The run needed a step more than its budget.
     Spent = 7,
     /// A file could not be read.

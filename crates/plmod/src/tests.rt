@@ -127,3 +127,153 @@ fn quiet_ones_serve(rt: HostRuntime) -> Result<(), Fail> {
     assert_eq!(rt; status, Status::NotBuilt);
     Ok(())
 }
+
+/// A preparation: the file `x`, the file `k` where there is one, the words, what is printed, and the status.
+type Preparation = (
+    &'static [u8],
+    Option<&'static [u8]>,
+    &'static [&'static str],
+    &'static str,
+    Status,
+);
+
+const PREPARATIONS: [Preparation; 9] = [
+    (
+        b"a.",
+        None,
+        &["prepare", "u", "x"],
+        "prepared 1 sections 1 clauses\n",
+        Status::Done,
+    ),
+    (
+        b":- module(m).\n",
+        None,
+        &["prepare", "u", "x"],
+        "fault P7 in x at byte 14\n",
+        Status::PrepFault,
+    ),
+    (
+        b"a. \xff",
+        None,
+        &["prepare", "u", "x"],
+        "fault P1 in x at byte 3\n",
+        Status::PrepFault,
+    ),
+    (
+        b"a b.",
+        None,
+        &["prepare", "u", "x"],
+        "fault P5 in x at byte 0\n",
+        Status::PrepFault,
+    ),
+    (
+        b":- import(m).",
+        None,
+        &["prepare", "u", "x"],
+        "fault P11 in x at byte 0\n",
+        Status::PrepFault,
+    ),
+    (
+        b":- op(1201, xfx, ===>).",
+        None,
+        &["prepare", "u", "x"],
+        "fault P12 in x at byte 0\n",
+        Status::PrepFault,
+    ),
+    (
+        b"call(X) :- X.",
+        None,
+        &["prepare", "u", "x"],
+        "fault P14 in x at byte 0\n",
+        Status::PrepFault,
+    ),
+    (
+        b"a.",
+        Some(b"a."),
+        &["prepare", "u", "x", "k"],
+        "not a unit: k\n",
+        Status::NotUnit,
+    ),
+    (b"a.", None, &["prepare", "u"], USAGE, Status::Usage),
+];
+
+/// What these words give over the files `x` and `k`.
+fn prepared(
+    alloc: Global,
+    text: &[u8],
+    known: Option<&[u8]>,
+    given: &[&str],
+    fails: CallList,
+) -> Result<(MemShelf, MemSink, Status), NoMemory> {
+    let mut words = Words::new(alloc);
+    for word in given {
+        words.push(Name::of(alloc, word)?)?;
+    }
+    let mut shelf = MemShelf::new(alloc, fails);
+    add_short(alloc, &mut shelf, "x", text)?;
+    if let Some(bytes) = known {
+        add_short(alloc, &mut shelf, "k", bytes)?;
+    }
+    let mut out = MemSink::new(alloc, CallList::new(alloc));
+    let status = plmod(alloc, &words, &mut shelf, &mut out);
+    Ok((shelf, out, status))
+}
+
+/// Puts a short file on the shelf.
+fn add_short(
+    alloc: Global,
+    shelf: &mut MemShelf,
+    name: &str,
+    bytes: &[u8],
+) -> Result<(), NoMemory> {
+    if bytes.len() > 1000 {
+        return Err(NoMemory);
+    }
+    shelf.add(&Name::of(alloc, name)?, bytes)
+}
+
+#[test]
+fn prepares_texts(rt: HostRuntime) -> Result<(), Fail> {
+    for (text, known, words, printed, status) in PREPARATIONS {
+        match prepared(rt.alloc(), text, known, words, CallList::new(rt.alloc())) {
+            Ok((_shelf, out, ended)) => {
+                assert_eq!(rt; out.bytes(), printed.as_bytes(), "{printed}");
+                assert_eq!(rt; ended, status, "{printed}");
+            }
+            Err(_) => assert!(rt; false),
+        }
+    }
+    Ok(())
+}
+
+#[test]
+fn puts_the_unit(rt: HostRuntime) -> Result<(), Fail> {
+    let unit: &[u8] = b"PLMU\x01\0\0\0\x03\0\0\0\x04user\0\0\0\x01a\0\0\0\x04true\0\0\0\0\0\0\0\x01\
+        \x02\0\0\0\0\0\0\0\0\0\0\0\x01\x08\0\0\0\0\0\0\0\0\x02\0\0\0\x01\x02\0\0\0\x02";
+    let words = ["prepare", "u", "x"];
+    match prepared(rt.alloc(), b"a.", None, &words, CallList::new(rt.alloc())) {
+        Ok((shelf, _out, _status)) => {
+            let Ok(name) = Name::of(rt.alloc(), "u") else {
+                assert!(rt; false, "memory is ample");
+                return Ok(());
+            };
+            assert_eq!(rt; shelf.get(&name), Some(unit));
+        }
+        Err(_) => assert!(rt; false),
+    }
+    Ok(())
+}
+
+#[test]
+fn a_failed_put_of_a_unit_is_told(rt: HostRuntime) -> Result<(), Fail> {
+    let mut fails = CallList::new(rt.alloc());
+    assert!(rt; fails.push(1).is_ok());
+    match prepared(rt.alloc(), b"a.", None, &["prepare", "u", "x"], fails) {
+        Ok((_shelf, out, ended)) => {
+            assert!(rt; out.bytes().is_empty());
+            assert_eq!(rt; ended, Status::WriteFault);
+        }
+        Err(_) => assert!(rt; false),
+    }
+    Ok(())
+}

@@ -3,10 +3,12 @@ ghost use Rattle.std.specs.Prelude.{◌≡◌, ◌≢◌, Option, Some, None, []
 ghost use Rattle.std.specs.Io.KnownBytes.{Appends};
 ghost use Rattle.plm_io.specs.Files.{file_of};
 ghost use Rattle.plmod.specs.Words.{command_of, order_of, All};
-ghost use Rattle.plmod.specs.Outcome.{outcome};
+ghost use Rattle.plmod.specs.Outcome.{Outcome};
+ghost use Rattle.plmod.specs.Comes.{Comes};
 ghost use Rattle.plmod.specs.Meets.{Meets, bytes_under};
 
 use crate::fetch::{fetch_all, read_status};
+use crate::preparing::prepare_text;
 use crate::running::{put_last, run_all};
 use crate::status::Status;
 use crate::words::{Command, Words, read_words};
@@ -45,8 +47,8 @@ pub fn plmod_quiet(
 ) -> Status
     ensures no_read_fault { result ≢ Status.ReadFault }
     ensures no_write_fault { result ≢ Status.WriteFault }
-    ensures output { result ≢ Status.NoMemory →
-        Appends (Some out.old) (Some out.new) (outcome (command_of words.now) (bytes_under (λ name. Some (Some (unwrap_or (file_of shelf.old name) []))))).bytes }
+    ensures output { result ≢ Status.NoMemory → (o : Outcome) → Comes (command_of words.now) (bytes_under (λ name. Some (Some (unwrap_or (file_of shelf.old name) [])))) o →
+        Appends (Some out.old) (Some out.new) o.bytes }
 {
     plmod(alloc, words, shelf, out)
 }
@@ -77,7 +79,11 @@ fn serve<S: Shelf, O: Sink>(
             goal,
             texts,
         } => all(alloc, budget, goal, texts, shelf, out),
-        Command::Prepare { .. } => Status::NotBuilt,
+        Command::Prepare {
+            out: unit,
+            text,
+            known,
+        } => prepare_text(alloc, unit, text, known, shelf, out),
         Command::Link { .. } => Status::NotBuilt,
         Command::Run { .. } => Status::NotBuilt,
         Command::Show { .. } => Status::NotBuilt,

@@ -5,15 +5,15 @@ use Rattle.pl_terms.specs.declared.cell.Cell.TheVariants.{Comp}
 use Rattle.directive_forms.proofs.Readings.{mode_term-is}
 use Rattle.directive_forms.proofs.items.mode_term.Goals as goal
 
-pub returns-in-Some : goal.returns-in-Some
-returns-in-Some c =
+pub returns-in-Some-clause-form : goal.returns-in-Some-clause-form
+returns-in-Some-clause-form c =
     let f = text_of c.args.names.now in
     let cell : c.peek.result ≡ Some (Comp c.in-Some-Comp.name c.in-Some-Comp.count) = cc in
     let is = mode_term-is f c.args.walk.now c.again-args.result c.enter.new.self c.peek.result c.in-Some-Comp.name c.in-Some-Comp.count _ cell c.peek.ensures c.again-args.ensures c.enter.ensures.trees c.in_ok-modes.ensures in
     ap (option_map (λ (ms : List Bool). (f c.in-Some-Comp.name.0, ms))) (sym c.in-Some.is) ∙ is
 
-pub returns-in-None : goal.returns-in-None
-returns-in-None c =
+pub returns-in-None-clause-form : goal.returns-in-None-clause-form
+returns-in-None-clause-form c =
     let f = text_of c.args.names.now in
     let cell : c.peek.result ≡ Some (Comp c.in-Some-Comp.name c.in-Some-Comp.count) = cc in
     let is = mode_term-is f c.args.walk.now c.again-args.result c.enter.new.self c.peek.result c.in-Some-Comp.name c.in-Some-Comp.count _ cell c.peek.ensures c.again-args.ensures c.enter.ensures.trees c.in_ok-modes.ensures in

@@ -1,0 +1,9 @@
+pub mod Steps
+pub mod Putting
+pub mod Reading
+pub mod Telling
+pub mod Declaring
+pub mod Sorting
+pub mod Naming
+pub mod Terms
+pub mod Dispatch

@@ -1,0 +1,6 @@
+use Rattle.search_theory.proofs.SearchLaws.{search-found}
+use Rattle.goal_model.specs.Table.{prolog}
+use Rattle.goal_model.proofs.laws.value_is_bound_free.Goals as goal
+
+pub returns : goal.returns
+returns c = λ n p. search-found (prolog n p)

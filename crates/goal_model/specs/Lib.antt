@@ -1,0 +1,9 @@
+pub mod Program
+pub mod Environments
+pub mod Bodies
+pub mod Rows
+pub mod Table
+pub mod Run
+pub mod TextLaws
+pub mod Choices
+pub mod NameLaws

@@ -1,0 +1,18 @@
+-- Unifiers under other names.
+use Rattle.std.specs.Prelude.{◌≡◌, ℕ, List, map, option_map}
+use Rattle.pl_terms.specs.Trees.{Tree, renamed}
+use Rattle.run_model.specs.Mgu.{mgu}
+
+-- different names become different ones
+abbrev pub KeepsApart : (ℕ → ℕ) → Type 0
+KeepsApart f = (a b : ℕ) → f a ≡ f b → a ≡ b
+
+abbrev pub equation_by : (ℕ → ℕ) → Tree ℕ × Tree ℕ → Tree ℕ × Tree ℕ
+equation_by f e = (renamed f e.0, renamed f e.1)
+
+abbrev pub replacement_by : (ℕ → ℕ) → ℕ × Tree ℕ → ℕ × Tree ℕ
+replacement_by f b = (b.0, renamed f b.1)
+
+-- the unifier of equations under other names is that of the equations, under these names
+abbrev pub MguRenames : Type 0
+MguRenames = (f : ℕ → ℕ) → KeepsApart f → (es : List (Tree ℕ × Tree ℕ)) → mgu (map (equation_by f) es) ≡ option_map (map (replacement_by f)) (mgu es)

@@ -1,0 +1,28 @@
+-- The run of a goal with a program and a budget of steps.
+use Rattle.std.specs.Prelude.{ℕ, List, [], length, map, codes, Result, Ok, Err}
+use Rattle.pl_terms.specs.Trees.{Tree, var}
+use Rattle.pl_terms.specs.Occurrence.{variables, canon, from_to}
+use Rattle.search_theory.specs.Search.{Point, Outcome, Thrown, At, Over}
+use Rattle.search_theory.specs.Frames.{value}
+use Rattle.builtin_model.specs.Naming.{Naming}
+use Rattle.goal_model.specs.Program.{Clauses, Program}
+use Rattle.goal_model.specs.Environments.{Environment}
+use Rattle.goal_model.specs.Bodies.{Goal, goal_of, flat}
+use Rattle.goal_model.specs.Table.{World, prolog}
+
+module _ (n : Naming ℕ) where
+  -- everything in user
+  abbrev pub user_place : Environment
+  user_place = record { lookup = n.name (codes "user"); context = n.name (codes "user"); caller = n.name (codes "user") }
+
+  abbrev pub starting : Result (Tree ℕ) (Tree ℕ) → ℕ → Point Goal World (Tree ℕ)
+  starting (Err ball) v = Over (Thrown (canon ball) [])
+  starting (Ok t) v = At (record { depth = 0; items = flat n t user_place 0; world = record { template = map var (from_to 0 v); next = v } })
+
+  -- where the run of a goal starts, whose variables are numbered from 0
+  abbrev pub start : Tree ℕ → Point Goal World (Tree ℕ)
+  start t = starting (goal_of n t (n.name (codes "call")) 1) (length (variables t))
+
+  -- the events of a run, the steps left at its end, and how it ends; what is cut to at the top is exhausted
+  abbrev pub run_of : Program → Tree ℕ → ℕ → Outcome (List (Tree ℕ)) (Tree ℕ) Clauses
+  run_of p t budget = value (prolog n p) (start t) budget p.clauses []

@@ -1,0 +1,6 @@
+mod Vectors
+mod Same
+mod GivesLaws
+mod LeastLaws
+mod TogetherLaws
+mod WholeLaws

@@ -1,0 +1,5 @@
+use Rattle.plmod.proofs.SomeOutcome.{some_outcome}
+use Rattle.plmod.proofs.laws.some_outcome.Goals as goal
+
+pub returns : goal.returns
+returns c = some_outcome

@@ -1,0 +1,6 @@
+use Rattle.std.proofs.Common.{◌∙◌, sym, ap}
+use Rattle.plmod.proofs.PrepareLaws.{same_length}
+use Rattle.plmod.proofs.preparing.prepare_known.Goals as goal
+
+pub made_of-requires-clause-each : goal.made_of-requires-clause-each
+made_of-requires-clause-each g c = rw c.as_slice.ensures (same_length _ _ _ c.in-Ok.ensures.found)

@@ -1,0 +1,9 @@
+pub mod Lists
+pub mod Tests
+pub mod Forms
+pub mod Clauses
+pub mod Tables
+pub mod Sayings
+pub mod Growth
+pub mod Steps
+pub mod Ends

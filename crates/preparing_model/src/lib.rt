@@ -1,0 +1,2 @@
+//! What the parts of preparing promise one another. The definitions stand in specs.
+#![tactic(auto)]

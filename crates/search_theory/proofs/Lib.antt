@@ -1,0 +1,10 @@
+pub mod SearchLaws
+pub mod BudgetLaws
+pub mod FrameLaws
+pub mod GuardLaws
+pub mod TurnLaws
+pub mod SkipLaws
+pub mod TellLaws
+pub mod ExitLaws
+pub mod Simulation
+pub mod Vectors
