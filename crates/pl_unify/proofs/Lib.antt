@@ -18,3 +18,4 @@ pub mod Loading
 pub mod CodeMaking
 pub mod Grounds
 pub mod Fields
+pub mod Compounds

@@ -9,3 +9,4 @@ pub mod Code
 pub mod Match
 pub mod Coding
 pub mod Notes
+pub mod Making

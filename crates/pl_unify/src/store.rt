@@ -8,6 +8,7 @@ ghost use Rattle.pl_unify.specs.State.{IsStore, IsRef, IsMark, Grows, tree_at, t
 ghost use Rattle.pl_unify.specs.Shape.{IsVariable, number_of};
 
 mod build;
+mod compound;
 mod head;
 mod load;
 mod notes;

@@ -1,0 +1,4 @@
+pub mod Known
+pub mod States
+pub mod Steps
+pub mod Again

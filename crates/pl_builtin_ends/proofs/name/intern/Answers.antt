@@ -1,0 +1,6 @@
+use Rattle.std.proofs.Common.{sym}
+use Rattle.pl_builtin_ends.proofs.Known.{number-known}
+use Rattle.pl_builtin_ends.proofs.name.intern.Goals as goal
+
+pub returns-clause-number : goal.returns-clause-number
+returns-clause-number c = sym (number-known c.intern.new.self c.len-count.ensures.distinct c.args.text.now c.in_ok-name.name.0 c.in_ok-name.ensures.number)

@@ -1,0 +1,9 @@
+mod Walks
+mod Lists
+mod Firsts
+mod Finding
+mod Endings
+mod Copies
+mod New
+mod Parts
+mod Renumbering

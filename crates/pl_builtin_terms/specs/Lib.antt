@@ -1,0 +1,4 @@
+pub mod Walk
+pub mod Items
+pub mod Counts
+pub mod ErrorTerms

@@ -1,0 +1,5 @@
+pub mod Views
+pub mod Argument
+pub mod Evaluated
+pub mod Ordered
+pub mod Ends

@@ -1,0 +1,21 @@
+//! The built-in predicates that are no control constructs, over the terms of a store (ISO/IEC 13211-1, 8).
+#![tactic(auto)]
+
+mod argument;
+mod control;
+mod dispatch;
+mod numbered;
+mod order;
+mod output;
+mod row_table;
+mod type_test;
+mod unification;
+mod value;
+
+pub use dispatch::run;
+pub use numbered::{Outcome, call};
+pub use pl_builtin_ends::{Done, Raised};
+pub use row_table::row_of;
+
+#[cfg(test)]
+mod tests;
