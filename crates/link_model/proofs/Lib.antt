@@ -1,6 +1,6 @@
 mod Vectors
-mod Same
-mod GivesLaws
+pub mod Same
+pub mod GivesLaws
 mod LeastLaws
 mod TogetherLaws
 mod WholeLaws

@@ -1,0 +1,5 @@
+mod PlaceLaws
+mod TagLaws
+mod AddLaws
+mod IndexLaws
+mod ProgramLaws

@@ -1,0 +1,6 @@
+pub mod Places
+pub mod Tags
+pub mod Linked
+pub mod Views
+pub mod Rules
+pub mod Runs
