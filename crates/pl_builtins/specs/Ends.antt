@@ -1,5 +1,5 @@
 -- Calls of built-in predicates by the numbers of their rows.
-use Rattle.std.specs.Prelude.{◌≡◌, ℕ, List, [], codes, Option, Some, None, slice_index_or}
+use Rattle.std.specs.Prelude.{◌≡◌, ℕ, List, [], Option, Some, None, slice_index_or}
 use Rattle.pl_atoms.specs.CaseTable.{Case}
 use Rattle.pl_atoms.specs.Names.{IsFront}
 use Rattle.pl_terms.specs.Trees.{Tree}

@@ -18,7 +18,9 @@ use Rattle.pl_unify.specs.declared.code.CodeWord.TheVariants.{Var, Int, Name, Co
 use Rattle.pl_unify.specs.Words.{word_tree, bases, WordIn}
 use Rattle.pl_unify.specs.State.{State, IsStore}
 use Rattle.pl_unify.specs.Load.{WordsIn}
-use Rattle.pl_unify.specs.Shape.{arity, argument}
+use Rattle.pl_unify.specs.declared.word.View.{View}
+use Rattle.pl_unify.specs.declared.word.View.TheVariants as V
+use Rattle.pl_unify.specs.Shape.{root, arity, argument}
 use Rattle.pl_unify.specs.Code.{plain, no_code, code_base, code_tree, last_tree, From, Closed, CodeIn, IsCode, VarsBelow, start_of, piece_words}
 use Rattle.pl_unify.specs.Coding.{Segments, PiecesIn, Coded, piece_trees}
 use Rattle.pl_unify.proofs.Adds.{with_more}
@@ -267,3 +269,21 @@ arity_of ws vars p k f first from code h e =
     let C : List (Tree ℕ) = code_base ws in
     let is : code_tree ws p ≡ comp f.0 (trees (take k (drop first C))) = code_tree-at ws vars p code h ∙ ap (λ w. word_tree C (plain w)) (sym e) in
     ap arity is ∙ (count-trees (take k (drop first C)) ∙ length-take-le k (drop first C) (omega (arith, length-drop first C, within.1, length-bases_nil (map plain ws), length-map ws plain)))
+
+-- the root of the tree of a place is seen from its word
+abbrev pub seen : CodeWord → View
+seen (Var n) = V.Var n
+seen (Int z) = V.Int z
+seen (Name a) = V.Name a
+seen (Comp k f first from) = V.Comp f k
+
+pub root_seen : (ws : List CodeWord) (vars p : ℕ) (w : CodeWord) → IsCode ws vars → p < length ws → w ≡ get_or ws p no_code → seen w ≡ root (code_tree ws p)
+root_seen ws vars p w code h e = go w e ∙ sym (ap root (code_tree-at ws vars p code h ∙ ap (λ x. word_tree (code_base ws) (plain x)) (sym e)))
+  where
+    go : (x : CodeWord) → x ≡ get_or ws p no_code → seen x ≡ root (word_tree (code_base ws) (plain x))
+    go (Var n) i = refl
+    go (Int z) i = refl
+    go (Name a) i = refl
+    go (Comp k f first from) i =
+        let is : code_tree ws p ≡ word_tree (code_base ws) (plain (Comp k f first from)) = code_tree-at ws vars p code h ∙ ap (λ x. word_tree (code_base ws) (plain x)) (sym i) in
+        ap (V.Comp f) (sym (arity_of ws vars p k f first from code h i) ∙ ap arity is)

@@ -2,11 +2,12 @@
 ghost use Rattle.std.specs.Prelude.{◌≡◌, ℕ, ◌+◌, ◌<◌, ◌≤◌, ◌^◌, ◌∷◌, ◌++◌, [], length, slice_index_or, IfOk, OnOk, take, drop, reverse};
 ghost use Rattle.pl_terms.specs.Cells.{cells};
 ghost use Rattle.pl_unify.specs.Prefix.{with_cell, Has};
-ghost use Rattle.pl_unify.specs.Shape.{arity, argument};
+ghost use Rattle.pl_unify.specs.Shape.{root, arity, argument};
 ghost use Rattle.pl_unify.specs.Coding.{Coded, piece_trees};
 ghost use Rattle.pl_unify.specs.Code.{VarsBelow, start_of, piece_words, last_tree, IsCode, no_code, code_tree};
 
 use crate::list::push;
+use crate::word::{View, int_view};
 use pl_atoms::{NameId, NoMemory};
 use pl_terms::{Cell, Term};
 use std::alloc::Global;
@@ -76,6 +77,19 @@ impl Code {
                 Ok(Code { words, vars })
             }
             None => unreachable!(),
+        }
+    }
+
+    /// What stands at the root of the term of a place.
+    pub fn view(&self, p: usize) -> View
+        requires { p < length self.now.words }
+        ensures { result ≡ root (code_tree self.now.words p) }
+    {
+        match self.word(p) {
+            CodeWord::Var(n) => View::Var(n),
+            CodeWord::Int(value) => int_view(value),
+            CodeWord::Name(name) => View::Name(name),
+            CodeWord::Comp(arity, name, _, _) => View::Comp(name, arity),
         }
     }
 

@@ -51,3 +51,10 @@ pub fn int_word(value: i64) -> Word
 {
     Word::Int(value)
 }
+
+/// What is seen of an integer.
+pub(crate) fn int_view(value: i64) -> View
+    ensures { result ≡ View.Int value }
+{
+    View::Int(value)
+}

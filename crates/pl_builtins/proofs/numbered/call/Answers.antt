@@ -1,4 +1,4 @@
-use Rattle.std.proofs.Common.{◌∙◌, map, sym}
+use Rattle.std.proofs.Common.{◌∙◌, map}
 use Rattle.std.proofs.lemmas.List.{append-nil}
 use Rattle.pl_unify.specs.State.{tree_at}
 use Rattle.builtin_model.specs.Naming.{by_numbers}

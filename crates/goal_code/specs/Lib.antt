@@ -1,0 +1,9 @@
+pub mod Shapes
+pub mod Parts
+pub mod Runs
+pub mod Tasks
+pub mod Steps
+pub mod Compiled
+pub mod Denotation
+pub mod Continuations
+pub mod Settled
