@@ -1,0 +1,2 @@
+mod Qualifying
+mod Colons
