@@ -20,19 +20,19 @@ use Rattle.goal_code.specs.Continuations.{Running, call_of, follow, items_within
 use Rattle.goal_code.proofs.Running.{Begins, begins}
 use Rattle.goal_code.proofs.DenotationLaws.{items_are_goals}
 
-module _ (r : Running) (s : ControlNames) (after : List (Item Goal)) (outer : ℕ → List (Item Goal)) where
+module _ (r : Running) (s : ControlNames) (after : List (Item (Goal ℕ))) (outer : ℕ → List (Item (Goal ℕ))) where
   abbrev Items : Type 0
-  Items = List (Item Goal)
+  Items = List (Item (Goal ℕ))
 
   -- what follows is read at the next place alone
-  follow_same : (c : Instruction) (f g : ℕ → List (Item Goal)) → f (next_of c) ≡ g (next_of c) → follow r after outer c f ≡ follow r after outer c g
+  follow_same : (c : Instruction) (f g : ℕ → List (Item (Goal ℕ))) → f (next_of c) ≡ g (next_of c) → follow r after outer c f ≡ follow r after outer c g
   follow_same (Other p n) f g h = ap (λ l. call_of r (code_tree r.words p) ∷ l) h
   follow_same (Commit p n) f g h = ap (λ l. call_of r (code_tree r.words p) ∷ l) h
   follow_same (Either p x y n) f g h = ap (λ l. call_of r (code_tree r.words p) ∷ l) h
   follow_same (If p x m o n) f g h = ap (λ l. call_of r (code_tree r.words p) ∷ l) h
   follow_same (EndIf n) f g h = refl
 
-  follow_goal : (c : Instruction) (f : ℕ → List (Item Goal)) → is_goal c ≡ true → follow r after outer c f ≡ call_of r (code_tree r.words (goal_of c)) ∷ f (next_of c)
+  follow_goal : (c : Instruction) (f : ℕ → List (Item (Goal ℕ))) → is_goal c ≡ true → follow r after outer c f ≡ call_of r (code_tree r.words (goal_of c)) ∷ f (next_of c)
   follow_goal (Other p n) f h = refl
   follow_goal (Commit p n) f h = refl
   follow_goal (Either p x y n) f h = refl
@@ -48,15 +48,15 @@ module _ (r : Running) (s : ControlNames) (after : List (Item Goal)) (outer : �
     enough (suc k) (suc j) pc a b = go (instruction_at r.code pc) refl (λ n l. enough k j n (omega (arith, a, l)) (omega (arith, b, l)))
       where
         go : (o : Option Instruction) → instruction_at r.code pc ≡ o → ((n : ℕ) → n < pc → items_within r after outer k n ≡ items_within r after outer j n)
-            → (elim o as (λ _. List (Item Goal)) [ None ↦ after | Some c ↦ follow r after outer c (items_within r after outer k) ])
-            ≡ elim o as (λ _. List (Item Goal)) [ None ↦ after | Some c ↦ follow r after outer c (items_within r after outer j) ]
+            → (elim o as (λ _. List (Item (Goal ℕ))) [ None ↦ after | Some c ↦ follow r after outer c (items_within r after outer k) ])
+            ≡ elim o as (λ _. List (Item (Goal ℕ))) [ None ↦ after | Some c ↦ follow r after outer c (items_within r after outer j) ]
         go None e ih = refl
         go (Some c) e ih = follow_same c (items_within r after outer k) (items_within r after outer j) (ih (next_of c) (sound pc c e).0)
 
     pub reads : (pc : ℕ) (c : Instruction) → instruction_at r.code pc ≡ Some c → items_from r after outer pc ≡ follow r after outer c (items_from r after outer)
     reads zero c e = cc
     reads (suc k) c e =
-        ap (λ o. elim o as (λ _. List (Item Goal)) [ None ↦ after | Some c ↦ follow r after outer c (items_within r after outer k) ]) e
+        ap (λ o. elim o as (λ _. List (Item (Goal ℕ))) [ None ↦ after | Some c ↦ follow r after outer c (items_within r after outer k) ]) e
         ∙ follow_same c (items_within r after outer k) (items_from r after outer) (let l : next_of c < suc k = (sound (suc k) c e).0 in enough k (next_of c) (next_of c) (omega (arith, l)) (omega arith))
 
     pub runs_first : (stop pc : ℕ) (ts : List (Tree ℕ)) → IsRun r.words r.code stop pc ts → items_from r after outer pc ≡ map (call_of r) ts ++ items_from r after outer stop
@@ -100,7 +100,7 @@ raised_goals s base (atom a) = go (nat_eq a s.truth.0)
     go false = refl
 raised_goals s base (comp f ts) = raised_conjuncts s base (comp f ts)
 
-calls_under : (bs : List (ℕ × Tree ℕ)) (base : ℕ) (words : List CodeWord) (code : List Instruction) (env : Environment) (d : ℕ) (ts : List (Tree ℕ))
+calls_under : (bs : List (ℕ × Tree ℕ)) (base : ℕ) (words : List CodeWord) (code : List Instruction) (env : Environment ℕ) (d : ℕ) (ts : List (Tree ℕ))
     → map (call_of (record { words = words; code = code; up = λ u. apply bs (raise base u); env = env; reach = d })) ts ≡ map (item_under bs) (map (called env d) (map (raise base) ts))
 calls_under bs base words code env d [] = refl
 calls_under bs base words code env d (t ∷ ts) = ap (λ l. called env d (apply bs (raise base t)) ∷ l) (calls_under bs base words code env d ts)

@@ -11,7 +11,7 @@ use Rattle.goal_code.specs.declared.shape.ControlNames.{ControlNames}
 use Rattle.goal_code.specs.Shapes.{conjuncts, body_goals}
 use Rattle.goal_code.specs.Denotation.{AreControlNames, called, ItemsAreGoals, FlatAreGoals}
 
-module _ (n : Naming ℕ) (s : ControlNames) (are : AreControlNames n s) (env : Environment) (d : ℕ) where
+module _ (n : Naming ℕ) (s : ControlNames) (are : AreControlNames n s) (env : Environment ℕ) (d : ℕ) where
   flat_goals : (t : Tree ℕ) → flat n t env d ≡ map (called env d) (conjuncts s t)
   flat_goals (var v) = refl
   flat_goals (int z) = refl

@@ -78,7 +78,7 @@ module _ (bs : List (ℕ × Tree ℕ)) (base : ℕ) where
     -- ---- rows
 
     module _ (n : Naming ℕ) (are : AreControlNames n s) where
-      abbrev HasRow : Shape → Row → Type 0
+      abbrev HasRow : Shape → Row ℕ → Type 0
       HasRow x r = IsRow (standing bs base) x r × PartsSettled s x
 
       disjunction_row : (l r : Tree ℕ) → is_settled s l ≡ true → is_settled s r ≡ true → HasRow (disjunction_shape s l r) (either_row n (standing bs base l) (standing bs base r))
@@ -133,7 +133,7 @@ module _ (bs : List (ℕ × Tree ℕ)) (base : ℕ) where
           up : Tree ℕ → Tree ℕ
           up = standing bs base
 
-          rest : Row
+          rest : Row ℕ
           rest = (if is_named n f (codes ":") then in_module (standing bs base l) (standing bs base r)
               else if is_named n f (codes "@") then from_context (standing bs base l) (standing bs base r)
               else call_row n f (cons (standing bs base l) (cons (standing bs base r) nil)))
@@ -167,7 +167,7 @@ module _ (bs : List (ℕ × Tree ℕ)) (base : ℕ) where
           first false false false e1 e2 e3 k = (tt, tt)
       rows (comp f (cons l (cons r (cons u us)))) h = (tt, tt)
 
-calls_map : (bs : List (ℕ × Tree ℕ)) (base : ℕ) (env : Environment) (d : ℕ) (ts : List (Tree ℕ)) → map (called env d) (map (standing bs base) ts) ≡ map (λ u. called env d (standing bs base u)) ts
+calls_map : (bs : List (ℕ × Tree ℕ)) (base : ℕ) (env : Environment ℕ) (d : ℕ) (ts : List (Tree ℕ)) → map (called env d) (map (standing bs base) ts) ≡ map (λ u. called env d (standing bs base u)) ts
 calls_map bs base env d [] = refl
 calls_map bs base env d (t ∷ ts) = ap (λ l. called env d (standing bs base t) ∷ l) (calls_map bs base env d ts)
 

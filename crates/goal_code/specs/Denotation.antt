@@ -18,13 +18,13 @@ pub record AreControlNames (n : Naming ℕ) (s : ControlNames) : Type 0 where
   pub truth : (f : ℕ) → is_named n f (codes "true") ≡ nat_eq f s.truth.0
 
 -- a goal in an environment, with the depth to which a cut in it cuts
-abbrev pub called : Environment → ℕ → Tree ℕ → Item Goal
+abbrev pub called : Environment ℕ → ℕ → Tree ℕ → Item (Goal ℕ)
 called env d t = Call (record { tree = t; env = env; reach = d })
 
 -- the items of a body are the calls of its goals
 abbrev pub ItemsAreGoals : Naming ℕ → ControlNames → Type 0
-ItemsAreGoals n s = (t : Tree ℕ) (env : Environment) (d : ℕ) → body_items n t env d ≡ map (called env d) (body_goals s t)
+ItemsAreGoals n s = (t : Tree ℕ) (env : Environment ℕ) (d : ℕ) → body_items n t env d ≡ map (called env d) (body_goals s t)
 
 -- the items of a goal as `call/1` runs it are the calls of its goals
 abbrev pub FlatAreGoals : Naming ℕ → ControlNames → Type 0
-FlatAreGoals n s = (t : Tree ℕ) (env : Environment) (d : ℕ) → flat n t env d ≡ map (called env d) (conjuncts s t)
+FlatAreGoals n s = (t : Tree ℕ) (env : Environment ℕ) (d : ℕ) → flat n t env d ≡ map (called env d) (conjuncts s t)

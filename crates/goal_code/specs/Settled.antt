@@ -25,7 +25,7 @@ abbrev pub standing : List (ℕ × Tree ℕ) → ℕ → Tree ℕ → Tree ℕ
 standing bs base t = apply bs (raise base t)
 
 -- what a goal is in a run, by what it is in the clause
-abbrev pub IsRow : (Tree ℕ → Tree ℕ) → Shape → Row → Type 0
+abbrev pub IsRow : (Tree ℕ → Tree ℕ) → Shape → Row ℕ → Type 0
 IsRow up (disjunction x y) r = r ≡ either (up x) (up y)
 IsRow up (if_then_else x y z) r = r ≡ if_then_else_row (up x) (up y) (up z)
 IsRow up (if_then x y) r = r ≡ if_then_row (up x) (up y)
@@ -47,5 +47,5 @@ RowsStay = (n : Naming ℕ) (s : ControlNames) → AreControlNames n s → (t : 
 
 -- a settled body has the same goals in each run
 abbrev pub GoalsStay : Type 0
-GoalsStay = (n : Naming ℕ) (s : ControlNames) → AreControlNames n s → (t : Tree ℕ) → is_settled s t ≡ true → (bs : List (ℕ × Tree ℕ)) (base : ℕ) (env : Environment) (d : ℕ)
+GoalsStay = (n : Naming ℕ) (s : ControlNames) → AreControlNames n s → (t : Tree ℕ) → is_settled s t ≡ true → (bs : List (ℕ × Tree ℕ)) (base : ℕ) (env : Environment ℕ) (d : ℕ)
     → flat n (standing bs base t) env d ≡ map (λ u. called env d (standing bs base u)) (conjuncts s t)

@@ -1,13 +1,15 @@
 //! Frames.
 ghost use Rattle.std.specs.Prelude.{◌≡◌, ℕ, ◌<◌, ◌≤◌, [], List, Some, length, reverse, slice_get, take, ◌++◌, ◌∷◌, IfOk, OnOk, OnErr};
-ghost use Rattle.pl_terms.specs.Trees.{Tree};
-ghost use Rattle.goal_frames.specs.Frames.{ClauseCode, place_get, items_of, IsLinked, IsPut};
+ghost use Rattle.std.specs.Prelude.{IsTrue};
+ghost use Rattle.pl_unify.specs.State.{State};
+ghost use Rattle.goal_frames.specs.Frames.{ClauseCode, place_get, place_after, is_over, items_of, IsLinked, IsPut};
 
 use pl_atoms::{NameId, NoMemory};
+use pl_unify::Ref;
 use std::alloc::Global;
 use std::marker::Model;
 
-/// Where a clause's body runs (ISO/IEC 13211-2, 6.1).
+/// Where a clause's body or a goal runs (ISO/IEC 13211-2, 6.1).
 #[derive(Clone, Copy, Debug)]
 pub struct Setting {
     /// The clause by its number.
@@ -20,16 +22,41 @@ pub struct Setting {
     pub context: NameId,
     /// The caller, which is the calling context of the clause's own call.
     pub caller: NameId,
-    /// The depth to which a cut in the body cuts.
+    /// The depth to which a cut cuts, or that of the catch that is left.
     pub depth: usize,
 }
 
-/// A body that is being run, and what goes on after it: the instructions of the frame `parent` from the place `ppc` on.
+/// What a frame runs. A part that is no body stands at place 1, and is done at place 0.
+#[derive(Clone, Copy, Debug)]
+pub enum Part {
+    /// The body of the setting's clause. Places are those of its instructions.
+    Body,
+    /// The goal at a place of the store.
+    Goal(Ref),
+    /// The cut to the setting's depth (ISO/IEC 13211-1, 7.8.4).
+    Cut,
+    /// The exit of the catch of the setting's depth (ISO/IEC 13211-1, 7.8.9).
+    Exit,
+    /// Failure.
+    Fail,
+    /// Nothing: what goes on after the frame does.
+    Link,
+}
+
+/// A part that is being run, and what goes on after it: that of the frame `parent` from the place `ppc` on.
 #[derive(Clone, Copy, Debug)]
 pub struct Frame {
     pub parent: usize,
     pub ppc: usize,
+    pub part: Part,
     pub setting: Setting,
+}
+
+// Whether nothing of a part is left at a place.
+fn has_ended(part: Part, pc: usize) -> bool
+    ensures { result ≡ is_over part pc }
+{
+    matches!(part, Part::Link) || pc == 0
 }
 
 /// Frames, named by places that are counted from 1. Each has a parent at a lower place, and nothing goes on after place 0.
@@ -85,17 +112,25 @@ impl Frames {
         self.at(place - 1)
     }
 
-    /// A frame and a place from which as much goes on as from these: the parent's, where nothing is left of the frame's body.
+    /// A frame and a place from which as much goes on as from these: the parent's, where nothing is left of the frame's part.
     pub fn after(&self, f: usize, pc: usize) -> (usize, usize)
-        ensures items { (p : ℕ → ClauseCode) (bs : List (ℕ × Tree ℕ)) → items_of p bs self.now result.0 result.1 ≡ items_of p bs self.now f pc }
+        ensures place { result ≡ place_after (place_get (reverse self.now) f) f pc }
+        ensures items { (p : ℕ → ClauseCode) (s : State) → items_of p s self.now result.0 result.1 ≡ items_of p s self.now f pc }
         ensures within { result.0 ≤ f }
     {
-        if pc == 0 {
-            if let Some(frame) = self.get(f) {
+        if let Some(frame) = self.get(f) {
+            if has_ended(frame.part, pc) {
                 return (frame.parent, frame.ppc);
             }
         }
         (f, pc)
+    }
+
+    /// Drops the frames above the first `keep`.
+    pub fn truncate(&mut self, keep: usize)
+        ensures { self.new ≡ take keep self.old }
+    {
+        self.list.truncate(keep);
     }
 
     /// Puts a frame above the first `keep`, and drops those that stood there. Its place is given. NoMemory: they are dropped.

@@ -6,4 +6,4 @@ pub mod laws;
 #[cfg(test)]
 mod tests;
 
-pub use frames::{Frame, Frames, Setting};
+pub use frames::{Frame, Frames, Part, Setting};

@@ -40,7 +40,7 @@ comp_clash f g ts us base = go (nat_eq f g) (nat_eq (count ts) (count us)) refl 
     go true true p q h = absurd (false≢true (sym h))
 
 -- arguments that do not fit clash
-argument_clash : (base : ℕ) (t u : Tree ℕ) → argument_fits (argument_key t) u ≡ false → IsClash t (raise base u)
+argument_clash : (base : ℕ) (t u : Tree ℕ) → argument_fits nat_eq (argument_key t) u ≡ false → IsClash t (raise base u)
 argument_clash base (var v) u h = absurd (false≢true (sym h))
 argument_clash base (int y) (var v) h = absurd (false≢true (sym h))
 argument_clash base (int y) (int z) h = ints (int_apart y z h)
@@ -66,14 +66,14 @@ first_clash f g t u ts us h = go (nat_eq f g) (nat_eq (count (cons t ts)) (count
         subst (λ name. Solved ((comp f (cons t ts), comp name (cons u us)) ∷ []) None) (eqb-true f g p)
         (parts (eqb-true (count (cons t ts)) (count (cons u us)) q) (clash h))
 
-any_fits : (head : Tree ℕ) → fits any head ≡ false → ⊥
+any_fits : (head : Tree ℕ) → fits nat_eq any head ≡ false → ⊥
 any_fits (comp g (cons u us)) h = false≢true (sym h)
 any_fits (comp g nil) h = false≢true (sym h)
 any_fits (var v) h = false≢true (sym h)
 any_fits (int z) h = false≢true (sym h)
 any_fits (atom s) h = false≢true (sym h)
 
-unfit_unsolved : (goal head : Tree ℕ) (base : ℕ) → fits (key_of goal) head ≡ false → Solved ((goal, raise base head) ∷ []) None
+unfit_unsolved : (goal head : Tree ℕ) (base : ℕ) → fits nat_eq (key_of goal) head ≡ false → Solved ((goal, raise base head) ∷ []) None
 unfit_unsolved (comp f (cons t ts)) (comp g (cons u us)) base h = first_clash f g t (raise base u) ts (raise_all base us) (argument_clash base t u h)
 unfit_unsolved (comp f (cons t ts)) (comp g nil) base h = absurd (false≢true (sym h))
 unfit_unsolved (comp f (cons t ts)) (var v) base h = absurd (false≢true (sym h))
@@ -85,15 +85,16 @@ unfit_unsolved (int z) head base h = absurd (any_fits head h)
 unfit_unsolved (atom s) head base h = absurd (any_fits head h)
 
 pub unfit_fail : (n : Naming ℕ) → UnfitFail n
+unfolding mgu
 unfit_fail n r clause c h =
     let es = (r.goal, raise r.world.next clause.head) ∷ [] in
     ap (resolved n r clause c) (sym (Solved-only es None (mgu es) (unfit_unsolved r.goal clause.head r.world.next h) (Solved-mgu es)))
 
 -- alternatives of which none is untried are none
-pub untried-hopeless : (n : Naming ℕ) (p : Program) (alternatives : List Alternative) → list_any is_untried alternatives ≡ false → Hopeless (prolog n p) alternatives
+pub untried-hopeless : (n : Naming ℕ) (p : Program ℕ) (alternatives : List (Alternative ℕ)) → list_any (is_untried nat_eq) alternatives ≡ false → Hopeless (prolog n nat_eq p) alternatives
 untried-hopeless n p [] h = tt
 untried-hopeless n p (a ∷ alternatives) h =
-    (λ c. one a (first (is_untried a) (list_any is_untried alternatives) h) c, untried-hopeless n p alternatives (second (is_untried a) (list_any is_untried alternatives) h))
+    (λ c. one a (first (is_untried nat_eq a) (list_any (is_untried nat_eq) alternatives) h) c, untried-hopeless n p alternatives (second (is_untried nat_eq a) (list_any (is_untried nat_eq) alternatives) h))
   where
     first : (b d : Bool) → (b || d) ≡ false → b ≡ false
     first true d q = q
@@ -103,6 +104,6 @@ untried-hopeless n p (a ∷ alternatives) h =
     second true d q = absurd (false≢true (sym q))
     second false d q = q
 
-    one : (a : Alternative) → is_untried a ≡ false → (c : Clauses) → attempt n a c ≡ None
+    one : (a : Alternative ℕ) → is_untried nat_eq a ≡ false → (c : Clauses ℕ) → attempt n nat_eq a c ≡ None
     one (leads s) q c = absurd (false≢true (sym q))
     one (resolves r clause) q c = unfit_fail n r clause c q

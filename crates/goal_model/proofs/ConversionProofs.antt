@@ -7,16 +7,16 @@ use Rattle.builtin_model.specs.Naming.{Naming}
 use Rattle.goal_model.specs.Bodies.{joined, converted}
 use Rattle.goal_model.specs.TextLaws.{ConvertsAlike}
 
-module _ (n : Naming ℕ) where
-  abbrev by_text : Option (Tree ℕ) → Option (Tree (List ℕ))
+module _ {N : Type 0} (n : Naming N) where
+  abbrev by_text : Option (Tree N) → Option (Tree (List ℕ))
   by_text = option_map (renamed n.text)
 
-  joined_texts : (f : ℕ) (p q : Option (Tree ℕ)) → by_text (joined f p q) ≡ control (n.text f) (by_text p) (by_text q)
+  joined_texts : (f : N) (p q : Option (Tree N)) → by_text (joined f p q) ≡ control (n.text f) (by_text p) (by_text q)
   joined_texts f None q = refl
   joined_texts f (Some l) None = refl
   joined_texts f (Some l) (Some r) = refl
 
-  by_control : (b : Bool) (f : ℕ) (p q : Option (Tree ℕ)) (t : Tree ℕ) → by_text (if b then joined f p q else Some t) ≡ (if b then control (n.text f) (by_text p) (by_text q) else Some (renamed n.text t))
+  by_control : (b : Bool) (f : N) (p q : Option (Tree N)) (t : Tree N) → by_text (if b then joined f p q else Some t) ≡ (if b then control (n.text f) (by_text p) (by_text q) else Some (renamed n.text t))
   by_control true f p q t = joined_texts f p q
   by_control false f p q t = refl
 

@@ -44,7 +44,7 @@ pub record Procedure : Type 0 where
   pub indicator : Indicator ℕ
   pub seen_in : List ℕ
   pub modes : Option (List Bool)
-  pub clauses : List Clause
+  pub clauses : List (Clause ℕ)
 
 abbrev pub is_for : Indicator ℕ → Procedure → Bool
 is_for i q = nat_eq q.indicator.name i.name && nat_eq q.indicator.arity i.arity
@@ -57,11 +57,11 @@ abbrev pub modes_in : List Procedure → ℕ → Indicator ℕ → Option (List 
 modes_in [] d i = None
 modes_in (q ∷ qs) d i = if is_for i q && nat_eq d q.of then q.modes else modes_in qs d i
 
-abbrev pub clauses_in : List Procedure → Clauses
+abbrev pub clauses_in : List Procedure → Clauses ℕ
 clauses_in [] d i = []
 clauses_in (q ∷ qs) d i = if is_for i q && nat_eq d q.of then q.clauses else clauses_in qs d i
 
-abbrev pub program : List (List ℕ) → List Procedure → Program
+abbrev pub program : List (List ℕ) → List Procedure → Program ℕ
 program modules qs = record {
   exists = λ m. list_any (λ s. nat_eq m (n.name s)) modules;
   visible = definer qs;
@@ -69,17 +69,17 @@ program modules qs = record {
   clauses = clauses_in qs;
 }
 
-abbrev pub clause : ℕ → Tree ℕ → Tree ℕ → Clause
+abbrev pub clause : ℕ → Tree ℕ → Tree ℕ → (Clause ℕ)
 clause width head body = record { width = width; head = head; body = body }
 
-abbrev pub fact : Tree ℕ → Clause
+abbrev pub fact : Tree ℕ → (Clause ℕ)
 fact head = clause 0 head (at (codes "true"))
 
 -- a procedure of user, which user sees
-abbrev pub own : List ℕ → ℕ → List Clause → Procedure
+abbrev pub own : List ℕ → ℕ → List (Clause ℕ) → Procedure
 own s k cs = record { of = n.name (codes "user"); indicator = record { name = n.name s; arity = k }; seen_in = n.name (codes "user") ∷ []; modes = None; clauses = cs }
 
-abbrev pub empty : Program
+abbrev pub empty : Program ℕ
 empty = program (codes "user" ∷ []) []
 
 -- what a run shows, the steps left, and how it ends
@@ -88,8 +88,8 @@ pub record Shown : Type 0 where
   pub left : ℕ
   pub ended : End (Tree ℕ)
 
-abbrev pub run : Program → Tree ℕ → ℕ → Shown
-run p t budget = let r : Outcome (List (Tree ℕ)) (Tree ℕ) Clauses = run_of n p t budget in record { events = r.events; left = r.left; ended = r.ended }
+abbrev pub run : Program ℕ → Tree ℕ → ℕ → Shown
+run p t budget = let r : Outcome (List (Tree ℕ)) (Tree ℕ) (Clauses ℕ) = run_of n nat_eq p t budget in record { events = r.events; left = r.left; ended = r.ended }
 
 abbrev pub shows : List (Event (List (Tree ℕ))) → ℕ → End (Tree ℕ) → Shown
 shows events left end = record { events = events; left = left; ended = end }

@@ -9,27 +9,27 @@ use Rattle.builtin_model.specs.Faults.{instantiation, max_arity, fault_tree, nam
 use Rattle.goal_model.specs.Environments.{Environment}
 
 -- a goal with its environment, and the depth to which a cut in it cuts
-pub record Goal : Type 0 where
-  pub tree : Tree ℕ
-  pub env : Environment
+pub record Goal (N : Type 0) : Type 0 where
+  pub tree : Tree N
+  pub env : Environment N
   pub reach : ℕ
 
-abbrev pub joined : ℕ → Option (Tree ℕ) → Option (Tree ℕ) → Option (Tree ℕ)
+abbrev pub joined : {N : Type 0} → N → Option (Tree N) → Option (Tree N) → Option (Tree N)
 joined f None q = None
 joined f (Some l) None = None
 joined f (Some l) (Some r) = Some (comp f (cons l (cons r nil)))
 
-abbrev pub under : (Tree ℕ → Tree ℕ) → Result (Tree ℕ) (Tree ℕ) → Result (Tree ℕ) (Tree ℕ)
+abbrev pub under : {N : Type 0} → (Tree N → Tree N) → Result (Tree N) (Tree N) → Result (Tree N) (Tree N)
 under up (Ok t) = Ok (up t)
 under up (Err b) = Err b
 
-module _ (n : Naming ℕ) where
+module _ {N : Type 0} (n : Naming N) where
   -- whether a name's text is this one
-  abbrev pub is_named : ℕ → List ℕ → Bool
+  abbrev pub is_named : N → List ℕ → Bool
   is_named f s = same_text (n.text f) s
 
   -- a term as a body: each variable in a goal place is the goal that calls it; none where such a place has an integer
-  abbrev pub converted : Tree ℕ → Option (Tree ℕ)
+  abbrev pub converted : Tree N → Option (Tree N)
   converted (var v) = Some (term_of_one n (codes "call") (var v))
   converted (int z) = None
   converted (comp f (cons l (cons r nil))) =
@@ -37,21 +37,21 @@ module _ (n : Naming ℕ) where
   converted t = Some t
 
   -- the ball of a term that is no goal, where the construct f with k arguments takes it for one
-  abbrev pub not_callable : Tree ℕ → ℕ → ℕ → Tree ℕ
+  abbrev pub not_callable : Tree N → N → ℕ → Tree N
   not_callable t f k =
       term_of_two n (codes "error") (term_of_two n (codes "type_error") (named n (codes "callable")) t) (indicator n f k)
 
-  abbrev pub convertible : Option (Tree ℕ) → Tree ℕ → ℕ → ℕ → Result (Tree ℕ) (Tree ℕ)
+  abbrev pub convertible : Option (Tree N) → Tree N → N → ℕ → Result (Tree N) (Tree N)
   convertible None t f k = Err (not_callable t f k)
   convertible (Some b) t f k = Ok b
 
   -- the body of a term that the construct f with k arguments takes for a goal, or the ball of its error
-  abbrev pub goal_of : Tree ℕ → ℕ → ℕ → Result (Tree ℕ) (Tree ℕ)
+  abbrev pub goal_of : Tree N → N → ℕ → Result (Tree N) (Tree N)
   goal_of (var v) f k = Err (fault_tree n instantiation f k)
   goal_of t f k = convertible (converted t) t f k
 
   -- the goals of a conjunction, with the depth to which a cut in them cuts
-  abbrev pub flat : Tree ℕ → Environment → ℕ → List (Item Goal)
+  abbrev pub flat : Tree N → Environment N → ℕ → List (Item (Goal N))
   flat (comp f (cons l (cons r nil))) env d =
       if is_named f (codes ",") then flat l env d ++ flat r env d
       else Call (record { tree = comp f (cons l (cons r nil)); env = env; reach = d }) ∷ []
@@ -59,11 +59,11 @@ module _ (n : Naming ℕ) where
 
   -- ---- goals with arguments added
 
-  abbrev pub with_arguments : ℕ → Trees ℕ → ℕ → ℕ → Result (Tree ℕ) (Tree ℕ)
+  abbrev pub with_arguments : N → Trees N → N → ℕ → Result (Tree N) (Tree N)
   with_arguments s ts f k = if nat_lt 255 (count ts) then Err (fault_tree n max_arity f k) else Ok (comp s ts)
 
   -- arguments are added to the innermost term of M:T; `whole` is the term that was given
-  abbrev pub added : Tree ℕ → Trees ℕ → Tree ℕ → ℕ → ℕ → Result (Tree ℕ) (Tree ℕ)
+  abbrev pub added : Tree N → Trees N → Tree N → N → ℕ → Result (Tree N) (Tree N)
   added whole us (var v) f k = Err (fault_tree n instantiation f k)
   added whole us (int z) f k = Err (not_callable whole f k)
   added whole us (atom s) f k = with_arguments s us f k
@@ -72,11 +72,11 @@ module _ (n : Naming ℕ) where
       else with_arguments s (append (cons m (cons t nil)) us) f k
   added whole us (comp s ts) f k = with_arguments s (append ts us) f k
 
-  abbrev pub goal_with : Result (Tree ℕ) (Tree ℕ) → ℕ → ℕ → Result (Tree ℕ) (Tree ℕ)
+  abbrev pub goal_with : Result (Tree N) (Tree N) → N → ℕ → Result (Tree N) (Tree N)
   goal_with (Ok t) f k = goal_of t f k
   goal_with (Err b) f k = Err b
 
   -- the body of a term with arguments added
-  abbrev pub called : Tree ℕ → Trees ℕ → ℕ → ℕ → Result (Tree ℕ) (Tree ℕ)
+  abbrev pub called : Tree N → Trees N → N → ℕ → Result (Tree N) (Tree N)
   called t nil f k = goal_of t f k
   called t us f k = goal_with (added t us t f k) f k

@@ -9,51 +9,53 @@ use Rattle.goal_model.specs.Program.{Clause, Clauses}
 use Rattle.goal_model.specs.Table.{Resolution, Alternative, leads, resolves, Recovery, Gathering, attempt}
 
 -- what is known of a goal's first argument: its integer, its atom, or its name and number of arguments
-pub data Key : Type 0 where
-  any : Key
-  integer : ℤ → Key
-  name : ℕ → Key
-  compound : ℕ → ℕ → Key
+pub data Key (N : Type 0) : Type 0 where
+  any : Key N
+  integer : ℤ → Key N
+  name : N → Key N
+  compound : N → ℕ → Key N
 
-abbrev pub argument_key : Tree ℕ → Key
+abbrev pub argument_key : {N : Type 0} → Tree N → Key N
 argument_key (var v) = any
 argument_key (int z) = integer z
 argument_key (atom s) = name s
 argument_key (comp f ts) = compound f (count ts)
 
 -- of a goal without arguments nothing is known
-abbrev pub key_of : Tree ℕ → Key
+abbrev pub key_of : {N : Type 0} → Tree N → Key N
 key_of (comp f (cons t ts)) = argument_key t
 key_of t = any
 
--- whether an argument of this key may have a unifier with a clause's
-abbrev pub argument_fits : Key → Tree ℕ → Bool
-argument_fits any t = true
-argument_fits k (var v) = true
-argument_fits (integer y) (int z) = int_eq y z
-argument_fits (name r) (atom s) = nat_eq r s
-argument_fits (compound f k) (comp g ts) = nat_eq f g && nat_eq k (count ts)
-argument_fits k t = false
+-- `same` tells whether two names are one
+module _ {N : Type 0} (same : N → N → Bool) where
+  -- whether an argument of this key may have a unifier with a clause's
+  abbrev pub argument_fits : Key N → Tree N → Bool
+  argument_fits any t = true
+  argument_fits k (var v) = true
+  argument_fits (integer y) (int z) = int_eq y z
+  argument_fits (name r) (atom s) = same r s
+  argument_fits (compound f k) (comp g ts) = same f g && nat_eq k (count ts)
+  argument_fits k t = false
 
--- whether a goal of this key may have a unifier with the head
-abbrev pub fits : Key → Tree ℕ → Bool
-fits k (comp g (cons t ts)) = argument_fits k t
-fits k head = true
+  -- whether a goal of this key may have a unifier with the head
+  abbrev pub fits : Key N → Tree N → Bool
+  fits k (comp g (cons t ts)) = argument_fits k t
+  fits k head = true
 
-abbrev pub is_untried : Alternative → Bool
-is_untried (leads s) = true
-is_untried (resolves r clause) = fits (key_of r.goal) clause.head
+  abbrev pub is_untried : Alternative N → Bool
+  is_untried (leads s) = true
+  is_untried (resolves r clause) = fits (key_of r.goal) clause.head
 
--- a catch has its recovery untried, and a nested search what follows it
-abbrev pub is_open : Frame Alternative Recovery Gathering (List (Tree ℕ)) → Bool
-is_open (Tries e alternatives) = list_any is_untried alternatives
-is_open (Catches e r) = true
-is_open (Collects e answers g) = true
+  -- a catch has its recovery untried, and a nested search what follows it
+  abbrev pub is_open : Frame (Alternative N) (Recovery N) (Gathering N) (List (Tree N)) → Bool
+  is_open (Tries e alternatives) = list_any is_untried alternatives
+  is_open (Catches e r) = true
+  is_open (Collects e answers g) = true
 
--- how many nodes have something untried
-abbrev pub choices : List (Frame Alternative Recovery Gathering (List (Tree ℕ))) → ℕ
-choices = count_by is_open
+  -- how many nodes have something untried
+  abbrev pub choices : List (Frame (Alternative N) (Recovery N) (Gathering N) (List (Tree N))) → ℕ
+  choices = count_by is_open
 
--- a clause that does not fit is no alternative
+-- where names are numbers, a clause that does not fit is no alternative
 abbrev pub UnfitFail : Naming ℕ → Type 0
-UnfitFail n = (r : Resolution) (clause : Clause) (c : Clauses) → is_untried (resolves r clause) ≡ false → attempt n (resolves r clause) c ≡ None
+UnfitFail n = (r : Resolution ℕ) (clause : Clause ℕ) (c : Clauses ℕ) → is_untried nat_eq (resolves r clause) ≡ false → attempt n nat_eq (resolves r clause) c ≡ None

@@ -1,5 +1,5 @@
 //! Laws of the search for the answers of a goal.
-ghost use Rattle.std.specs.Prelude.{ℕ};
+ghost use Rattle.std.specs.Prelude.{ℕ, Bool};
 ghost use Rattle.search_theory.specs.ValueLaws.{BoundFree, BudgetAdds};
 ghost use Rattle.builtin_model.specs.Naming.{Naming};
 ghost use Rattle.goal_model.specs.Choices.{UnfitFail};
@@ -9,13 +9,13 @@ ghost use Rattle.goal_model.specs.Table.{prolog};
 ghost use Rattle.goal_model.specs.TextLaws.{ConvertsAlike};
 
 /// What a search gives does not depend on its bound, as long as that is no less than the steps left.
-pub fn value_is_bound_free()
-    ensures { (n : Naming ℕ) (p : Program) → BoundFree (prolog n p) }
+pub fn value_is_bound_free<Name>()
+    ensures { (n : Naming Name) (same : Name → Name → Bool) (p : Program Name) → BoundFree (prolog n same p) }
 {}
 
 /// A larger budget of steps only adds events.
-pub fn budget_adds()
-    ensures { (n : Naming ℕ) (p : Program) → BudgetAdds (prolog n p) }
+pub fn budget_adds<Name>()
+    ensures { (n : Naming Name) (same : Name → Name → Bool) (p : Program Name) → BudgetAdds (prolog n same p) }
 {}
 
 /// A term is converted to a body (ISO/IEC 13211-1, 7.6.2) in the same way by the numbers of its names and by their texts.

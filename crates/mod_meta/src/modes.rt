@@ -61,6 +61,16 @@ impl Modes {
         }
     }
 
+    /// These modes.
+    pub fn from_slice(alloc: Global, flags: &[bool]) -> Result<Modes, NoMemory>
+        ensures { IfOk result (λ modes. modes ≡ flags.now) }
+    {
+        let flags = Vec::from_slice(alloc, flags)?;
+        Ok(Modes {
+            flags: ModeList::from_vec(flags),
+        })
+    }
+
     /// How many arguments there are.
     pub fn len(&self) -> usize
         ensures { result ≡ length self.now }

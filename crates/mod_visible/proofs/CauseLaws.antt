@@ -1,24 +1,24 @@
 -- The causes of entries: first clauses, exports of what is defined, and what is taken of other modules.
-use Rattle.std.proofs.Common.{◌≡◌, List, [], ◌∷◌, ◌++◌, Bool, true, false, ◌&&◌, cond, refl, sym, ap, subst, Option, Some, None, inl, inr, ◌⊎◌, if◌then◌else◌}
+use Rattle.std.proofs.Common.{◌≡◌, List, [], ◌∷◌, ◌++◌, Bool, true, false, ◌&&◌, cond, refl, sym, ap, subst, ◌∙◌, Option, Some, None, inl, inr, ◌⊎◌, if◌then◌else◌}
 use Rattle.std.specs.Prelude.{Contains}
 use Rattle.std.specs.List.{list_any}
-use Rattle.std.proofs.lemmas.Bool.{and_parts}
+use Rattle.std.proofs.lemmas.Bool.{and_parts, and_from}
 use Rattle.std.proofs.lemmas.List.{append-nil}
 use Rattle.std.proofs.lemmas.List.Elements.{Contains-append_left, Contains-append_right, Contains-append_cases}
-use Rattle.pl_atoms.proofs.Texts.{same_text-is}
+use Rattle.pl_atoms.proofs.Texts.{same_text-is, same_text-itself}
 use Rattle.pl_ops.specs.Tables.{same_text}
 use Rattle.unit_model.specs.Directives.{Text}
 use Rattle.link_model.specs.Places.{Ind, same_ind, Role, defining, exporting, reexporting_all, reexporting, moding, importing_all, importing, idle, Placed, steps}
-use Rattle.link_model.specs.Giving.{is_exporting, defines, gives_own, gives, own_of, owned, given, given_for}
+use Rattle.link_model.specs.Giving.{is_exporting, defines, gives_own, gives, own_of, owned, given, given_for, edge_of, edges, is_edge, passes}
 use Rattle.link_model.specs.Seeing.{Sort, seeing, giving, Cause, causes_at, causes_of, causes}
 use Rattle.link_model.proofs.Same.{same_ind-is, same_ind-itself}
 use Rattle.mod_visible.specs.Kinds.{cause_at, first_by, own_by, taken_by, firsts, owns, takens}
-use Rattle.mod_visible.proofs.Members.{in-here, in-there, in-cases, in-nil, in-map, of-map, in-flat_map, of-flat_map, in-filter_map, in-filter, of-filter, of-any}
+use Rattle.mod_visible.proofs.Members.{in-here, in-there, in-cases, in-nil, in-map, of-map, in-flat_map, of-flat_map, in-filter_map, in-filter, of-filter, in-any, of-any}
 
 abbrev Place : Type 0
 Place = Placed Text
 
-abbrev exporting_by : Text → Ind → Text → Role Text → Bool
+abbrev pub exporting_by : Text → Ind → Text → Role Text → Bool
 exporting_by m i o r = elim r [ exporting j ↦ same_text o m && same_ind i j | _ ↦ false ]
 
 -- ---- the three kinds
@@ -47,7 +47,7 @@ parts idle ps before p = refl
 
 -- ---- each element with those before it
 
-of-steps : {A : Type 0} (before xs : List A) (x : List A × A) → Contains (steps before xs) x → Contains xs x.1
+pub of-steps : {A : Type 0} (before xs : List A) (x : List A × A) → Contains (steps before xs) x → Contains xs x.1
 of-steps before [] x i = absurd (in-nil x i)
 of-steps {A} before (y ∷ xs) x i = elim (in-cases (before, y) x (steps (before ++ y ∷ []) xs) i) [
   | inl e ↦ subst (λ (w : List A × A). Contains (y ∷ xs) w.1) e (in-here y xs)
@@ -190,3 +190,50 @@ of-takens ps c i = let a = of-flat_map (λ (p : Place). taken_by p.role ps p) ps
 pub in-takens : (ps : List Place) (c : Cause) → IsTaken ps c → Contains (takens ps) c
 in-takens ps c t =
     subst (λ x. Contains (takens ps) x) (sym t.is) (in-flat_map (λ (p : Place). taken_by p.role ps p) ps t.place (cause_at c.sort t.place c.ind c.definer) t.member (is-taken ps t.place t.member t.place.role c.sort t.from c.ind c.definer t.takes t.given))
+
+-- ---- what passes takes
+
+abbrev edge_by : Ind → Text → Role Text → Option (Text × Text)
+edge_by i o r = elim r [
+  | reexporting_all n ↦ Some (o, n)
+  | reexporting n j ↦ if same_ind i j then Some (o, n) else None
+  | _ ↦ None
+]
+
+pub passes_by : (ps : List Place) (q : Place) (r : Role Text) → q.role ≡ r → Contains ps q → (n : Text) (i : Ind) → Takes r giving n i → passes ps q.of n i ≡ true
+passes_by ps q (reexporting_all m) e h n i t =
+    let edge : edge_of i q ≡ Some (q.of, n) = rw e (ap (λ (x : Text). Some (q.of, x)) t.1) in
+    in-any (is_edge q.of n) (edges ps i) (q.of, n) (in-filter_map (edge_of i) ps q (q.of, n) h edge) (and_from (same_text q.of q.of) (same_text n n) (same_text-itself q.of) (same_text-itself n))
+passes_by ps q (reexporting m j) e h n i t =
+    let test : same_ind i j ≡ true = subst (λ (x : Ind). same_ind x j ≡ true) t.2 (same_ind-itself j) in
+    let edge : edge_of i q ≡ Some (q.of, n) = rw e (ap (λ b. cond b (Some (q.of, m)) None) test ∙ ap (λ (x : Text). Some (q.of, x)) t.1) in
+    in-any (is_edge q.of n) (edges ps i) (q.of, n) (in-filter_map (edge_of i) ps q (q.of, n) h edge) (and_from (same_text q.of q.of) (same_text n n) (same_text-itself q.of) (same_text-itself n))
+passes_by ps q (importing_all m) e h n i t = absurd (let wrong : giving ≡ seeing = t.0 in cc)
+passes_by ps q (importing m j) e h n i t = absurd (let wrong : giving ≡ seeing = t.0 in cc)
+passes_by ps q (defining j) e h n i t = absurd t
+passes_by ps q (exporting j) e h n i t = absurd t
+passes_by ps q (moding j) e h n i t = absurd t
+passes_by ps q idle e h n i t = absurd t
+
+pub edge_takes : (q : Place) (r : Role Text) → q.role ≡ r → (i : Ind) (m n : Text) (e : Text × Text) → edge_of i q ≡ Some e → is_edge m n e ≡ true → Takes r giving n i × (q.of ≡ m)
+edge_takes q (reexporting_all k) is i m n e at h =
+    let a = and_parts (same_text e.0 m) (same_text e.1 n) h in
+    let at' : Some (q.of, k) ≡ Some e = subst (λ x. edge_by i q.of x ≡ Some e) is at in
+    let pair : (q.of, k) ≡ e = cc in
+    ((refl, ap (λ (x : Text × Text). x.1) pair ∙ same_text-is e.1 n a.1), ap (λ (x : Text × Text). x.0) pair ∙ same_text-is e.0 m a.0)
+edge_takes q (reexporting k j) is i m n e at h =
+    let a = and_parts (same_text e.0 m) (same_text e.1 n) h in
+    let at' : cond (same_ind i j) (Some (q.of, k)) None ≡ Some e = subst (λ x. edge_by i q.of x ≡ Some e) is at in
+    go (same_ind i j) refl at' a.0 a.1
+  where
+    go : (b : Bool) → same_ind i j ≡ b → cond b (Some (q.of, k)) None ≡ Some e → same_text e.0 m ≡ true → same_text e.1 n ≡ true → Takes (reexporting k j) giving n i × (q.of ≡ m)
+    go true t same x y =
+        let pair : (q.of, k) ≡ e = cc in
+        ((refl, ap (λ (z : Text × Text). z.1) pair ∙ same_text-is e.1 n y, sym (same_ind-is i j t)), ap (λ (z : Text × Text). z.0) pair ∙ same_text-is e.0 m x)
+    go false t same x y = absurd cc
+edge_takes q (importing_all k) is i m n e at h = absurd (let at' : None ≡ Some e = subst (λ x. edge_by i q.of x ≡ Some e) is at in cc)
+edge_takes q (importing k j) is i m n e at h = absurd (let at' : None ≡ Some e = subst (λ x. edge_by i q.of x ≡ Some e) is at in cc)
+edge_takes q (defining j) is i m n e at h = absurd (let at' : None ≡ Some e = subst (λ x. edge_by i q.of x ≡ Some e) is at in cc)
+edge_takes q (exporting j) is i m n e at h = absurd (let at' : None ≡ Some e = subst (λ x. edge_by i q.of x ≡ Some e) is at in cc)
+edge_takes q (moding j) is i m n e at h = absurd (let at' : None ≡ Some e = subst (λ x. edge_by i q.of x ≡ Some e) is at in cc)
+edge_takes q idle is i m n e at h = absurd (let at' : None ≡ Some e = subst (λ x. edge_by i q.of x ≡ Some e) is at in cc)

@@ -1,19 +1,19 @@
 -- What is found over numbers is what is defined over texts.
-use Rattle.std.proofs.Common.{◌≡◌, ℕ, zero, suc, ◌<◌, List, [], ◌∷◌, ◌++◌, length, map, Bool, true, false, ◌&&◌, cond, refl, sym, ap, subst, ◌∙◌, Option, Some, None, arith, inl, inr, ◌⊎◌}
-use Rattle.std.specs.Prelude.{Contains, if◌then◌else◌}
+use Rattle.std.proofs.Common.{◌≡◌, ℕ, zero, suc, ◌<◌, List, [], ◌∷◌, ◌++◌, length, map, true, false, refl, sym, ap, subst, ◌∙◌, Some, arith, inl, inr, ◌⊎◌}
+use Rattle.std.specs.Prelude.{Contains}
 use Rattle.std.specs.List.{AllByRecursion, filter_map, list_any}
-use Rattle.std.proofs.lemmas.Bool.{and_parts, and_from}
+use Rattle.std.proofs.lemmas.Bool.{and_parts}
 use Rattle.std.proofs.lemmas.List.Elements.{Contains-append_left, Contains-append_right, Contains-append_cases}
-use Rattle.pl_atoms.proofs.Texts.{same_text-is, same_text-itself}
+use Rattle.pl_atoms.proofs.Texts.{same_text-is}
 use Rattle.pl_atoms.proofs.Numbers.{number-is}
 use Rattle.pl_ops.specs.Tables.{same_text}
 use Rattle.unit_model.specs.Directives.{Text}
 use Rattle.unit_model.specs.Encoding.{text_at}
 use Rattle.unit_model.specs.declared.facts.Ind.{Ind}
-use Rattle.link_model.specs.Places.{Ind as IndOf, same_ind, Role as RoleOf, defining, exporting, reexporting_all, reexporting, moding, importing_all, importing, idle, Placed as PlacedOf}
+use Rattle.link_model.specs.Places.{Ind as IndOf, same_ind, Placed as PlacedOf}
 use Rattle.link_model.specs.Giving.{is_exporting, defines, gives_own, edge_of, edges, is_edge, passes, Gives, own, passed as passed_on}
-use Rattle.link_model.specs.Seeing.{Sort as SortOf, seeing, giving, Cause as CauseOf, causes}
-use Rattle.link_model.proofs.Same.{same_ind-is, same_ind-itself}
+use Rattle.link_model.specs.Seeing.{Sort as SortOf, giving, Cause as CauseOf, causes}
+use Rattle.link_model.proofs.Same.{same_ind-is}
 use Rattle.link_model.proofs.GivesLaws.{gives-is, gives-from}
 use Rattle.mod_visible.specs.declared.cause.Sort.{Sort}
 use Rattle.mod_visible.specs.declared.cause.Sort.TheVariants.{Seeing, Giving}
@@ -30,19 +30,9 @@ use Rattle.mod_visible.specs.Keys.{procedure}
 use Rattle.mod_visible.specs.Takers.{taker, taker_by, taker_of}
 use Rattle.mod_visible.specs.Closing.{cause_by, passed, Brings, Reached, seed, step, Closes}
 use Rattle.mod_visible.specs.Kinds.{cause_at, firsts, owns}
-use Rattle.mod_visible.specs.Causing.{sort_view, ind_text, cause_text, entry_texts, IsTable, AreSeeds, AreCauses}
-use Rattle.mod_visible.proofs.Members.{in-map, of-map, in-filter_map, of-filter_map, in-any, of-any}
-use Rattle.mod_visible.proofs.CauseLaws.{of-causes, first-in, own-in, taken-in, Takes, IsTaken, of-takens, in-takens}
-
-abbrev edge_by : IndOf → Text → RoleOf Text → Option (Text × Text)
-edge_by i o r = elim r [
-  | reexporting_all n ↦ Some (o, n)
-  | reexporting n j ↦ if same_ind i j then Some (o, n) else None
-  | _ ↦ None
-]
-
-abbrev exporting_by : Text → IndOf → Text → RoleOf Text → Bool
-exporting_by m i o r = elim r [ exporting j ↦ same_text o m && same_ind i j | _ ↦ false ]
+use Rattle.mod_visible.specs.Causing.{sort_view, ind_text, cause_text, entry_texts, IsTable, AreSeeds, IsNamedCause, AreNamed, AreCauses}
+use Rattle.mod_visible.proofs.Members.{in-map, of-map, in-filter_map, of-filter_map, of-any}
+use Rattle.mod_visible.proofs.CauseLaws.{of-causes, first-in, own-in, taken-in, Takes, IsTaken, of-takens, in-takens, passes_by, edge_takes, exporting_by}
 
 abbrev made_ind : Text → ℕ → IndOf
 made_ind s a = record { name = s; arity = a }
@@ -159,44 +149,6 @@ module _ (names : List Text) (entries : List Placed) (table : IsTable names entr
 
   -- ---- what is reached is what is given
 
-  passes_by : (q : PlacedOf Text) (r : RoleOf Text) → q.role ≡ r → Contains ps q → (n : Text) (i : IndOf) → Takes r giving n i → passes ps q.of n i ≡ true
-  passes_by q (reexporting_all m) e h n i t =
-      let edge : edge_of i q ≡ Some (q.of, n) = rw e (ap (λ (x : Text). Some (q.of, x)) t.1) in
-      in-any (is_edge q.of n) (edges ps i) (q.of, n) (in-filter_map (edge_of i) ps q (q.of, n) h edge) (and_from (same_text q.of q.of) (same_text n n) (same_text-itself q.of) (same_text-itself n))
-  passes_by q (reexporting m j) e h n i t =
-      let test : same_ind i j ≡ true = subst (λ (x : IndOf). same_ind x j ≡ true) t.2 (same_ind-itself j) in
-      let edge : edge_of i q ≡ Some (q.of, n) = rw e (ap (λ b. cond b (Some (q.of, m)) None) test ∙ ap (λ (x : Text). Some (q.of, x)) t.1) in
-      in-any (is_edge q.of n) (edges ps i) (q.of, n) (in-filter_map (edge_of i) ps q (q.of, n) h edge) (and_from (same_text q.of q.of) (same_text n n) (same_text-itself q.of) (same_text-itself n))
-  passes_by q (importing_all m) e h n i t = absurd (let wrong : giving ≡ seeing = t.0 in cc)
-  passes_by q (importing m j) e h n i t = absurd (let wrong : giving ≡ seeing = t.0 in cc)
-  passes_by q (defining j) e h n i t = absurd t
-  passes_by q (exporting j) e h n i t = absurd t
-  passes_by q (moding j) e h n i t = absurd t
-  passes_by q idle e h n i t = absurd t
-
-  edge_takes : (q : PlacedOf Text) (r : RoleOf Text) → q.role ≡ r → (i : IndOf) (m n : Text) (e : Text × Text) → edge_of i q ≡ Some e → is_edge m n e ≡ true → Takes r giving n i × (q.of ≡ m)
-  edge_takes q (reexporting_all k) is i m n e at h =
-      let a = and_parts (same_text e.0 m) (same_text e.1 n) h in
-      let at' : Some (q.of, k) ≡ Some e = subst (λ x. edge_by i q.of x ≡ Some e) is at in
-      let pair : (q.of, k) ≡ e = cc in
-      ((refl, ap (λ (x : Text × Text). x.1) pair ∙ same_text-is e.1 n a.1), ap (λ (x : Text × Text). x.0) pair ∙ same_text-is e.0 m a.0)
-  edge_takes q (reexporting k j) is i m n e at h =
-      let a = and_parts (same_text e.0 m) (same_text e.1 n) h in
-      let at' : cond (same_ind i j) (Some (q.of, k)) None ≡ Some e = subst (λ x. edge_by i q.of x ≡ Some e) is at in
-      go (same_ind i j) refl at' a.0 a.1
-    where
-      go : (b : Bool) → same_ind i j ≡ b → cond b (Some (q.of, k)) None ≡ Some e → same_text e.0 m ≡ true → same_text e.1 n ≡ true → Takes (reexporting k j) giving n i × (q.of ≡ m)
-      go true t same x y =
-          let pair : (q.of, k) ≡ e = cc in
-          ((refl, ap (λ (z : Text × Text). z.1) pair ∙ same_text-is e.1 n y, sym (same_ind-is i j t)), ap (λ (z : Text × Text). z.0) pair ∙ same_text-is e.0 m x)
-      go false t same x y = absurd cc
-  edge_takes q (importing_all k) is i m n e at h = absurd (let at' : None ≡ Some e = subst (λ x. edge_by i q.of x ≡ Some e) is at in cc)
-  edge_takes q (importing k j) is i m n e at h = absurd (let at' : None ≡ Some e = subst (λ x. edge_by i q.of x ≡ Some e) is at in cc)
-  edge_takes q (defining j) is i m n e at h = absurd (let at' : None ≡ Some e = subst (λ x. edge_by i q.of x ≡ Some e) is at in cc)
-  edge_takes q (exporting j) is i m n e at h = absurd (let at' : None ≡ Some e = subst (λ x. edge_by i q.of x ≡ Some e) is at in cc)
-  edge_takes q (moding j) is i m n e at h = absurd (let at' : None ≡ Some e = subst (λ x. edge_by i q.of x ≡ Some e) is at in cc)
-  edge_takes q idle is i m n e at h = absurd (let at' : None ≡ Some e = subst (λ x. edge_by i q.of x ≡ Some e) is at in cc)
-
   module _ (seeds : List Given) (are : AreSeeds names ps seeds) where
     abbrev takers : List Taker
     takers = filter_map taker_of entries
@@ -216,8 +168,19 @@ module _ (names : List Text) (entries : List Placed) (table : IsTable names entr
         let h = has_place q.0 q.0.role x q.2 in
         let module_is : q.0.module.0 ≡ x.module.0 = ap (λ (m : Rattle.pl_atoms.specs.declared.names.NameId.NameId). m.0) (sym h.0) in
         let below : x.module.0 < length names = subst (λ n. n < length names) module_is (below_for q.0 q.1).0 in
-        let pass = passes_by (text_of_entry q.0) (role_by (text_at names) (role_view q.0.role)) refl (text_for q.0 q.1) (T g.procedure.module) (given_ind g) t' in
+        let pass = passes_by ps (text_of_entry q.0) (role_by (text_at names) (role_view q.0.role)) refl (text_for q.0 q.1) (T g.procedure.module) (given_ind g) t' in
         ((below, ih.0.1), subst (λ n. Gives ps (T n) (given_ind g) (T g.definer)) module_is (passed_on (T q.0.module.0) (T g.procedure.module) (given_ind g) (T g.definer) pass ih.1))
+
+    definer_below : (g : Given) → Reached seeds takers g → g.definer < length names
+    definer_below _ (seed g i) = let a = are.only g i in subst (λ k. k < length names) (sym a.0) a.1
+    definer_below _ (step x g i b is r) = definer_below g r
+
+    cause_named : (t : Taker) (g : Given) → Contains takers t → Reached seeds takers g → IsNamedCause (length names) (cause_by t g)
+    cause_named t g i r =
+        let q = of-filter_map taker_of entries t i in
+        let place = has_place q.0 q.0.role t q.2 in
+        let number : q.0.module.0 ≡ t.module.0 = ap (λ (k : Rattle.pl_atoms.specs.declared.names.NameId.NameId). k.0) (sym place.0) in
+        (subst (λ k. k < length names) number (below_for q.0 q.1).0, (right g r).0.1, definer_below g r)
 
     pub record IsFor (m : Text) (i : IndOf) (d : Text) : Type 0 where
       pub it : Given
@@ -290,7 +253,7 @@ module _ (names : List Text) (entries : List Placed) (table : IsTable names entr
 
     -- ---- the causes
 
-    module _ (found : List Given) (before cs : List Cause) (parts : map (cause_text names) before ≡ firsts ps ++ owns ps) (all : Closes takers seeds before found cs) where
+    module _ (found : List Given) (before cs : List Cause) (parts : map (cause_text names) before ≡ firsts ps ++ owns ps) (named : AreNamed (length names) before) (all : Closes takers seeds before found cs) where
       part_in : (c : CauseOf) → Contains (firsts ps ++ owns ps) c → Contains (causes ps) c
       part_in c i = elim (Contains-append_cases (firsts ps) (owns ps) c i) [ inl a ↦ first-in ps c a | inr b ↦ own-in ps c b ]
 
@@ -337,6 +300,10 @@ module _ (names : List Text) (entries : List Placed) (table : IsTable names entr
 
       pub are_causes : AreCauses names entries cs
       are_causes = record {
+        named = λ c i. elim (all.causes_only c i) [
+          | inl a ↦ named c a
+          | inr d ↦ subst (IsNamedCause (length names)) (sym d.5) (cause_named d.0 d.1 d.2 (all.found_only d.1 d.4))
+        ];
         there = λ c i. elim (all.causes_only c i) [
           | inl a ↦ part_in (cause_text names c) (subst (λ l. Contains l (cause_text names c)) parts (in-map (cause_text names) before c a))
           | inr d ↦ taken_there c d

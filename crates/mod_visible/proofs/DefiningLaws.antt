@@ -5,7 +5,7 @@ use Rattle.std.specs.List.{AllByRecursion, flat_map, list_any}
 use Rattle.std.proofs.lemmas.Bool.{and_parts, and_from, or_cases, or_left}
 use Rattle.std.proofs.lemmas.List.{append-nil, take_more, take_all, map-append}
 use Rattle.std.proofs.lemmas.List.Concat.{flat_map-append}
-use Rattle.std.proofs.lemmas.List.Elements.{Contains-get_or, Contains-append_left}
+use Rattle.std.proofs.lemmas.List.Elements.{Contains-get_or, Contains-append_left, Contains-append_cases}
 use Rattle.std.proofs.lemmas.List.Folds.{list_any-append}
 use Rattle.pl_atoms.specs.Names.{AreDistinct}
 use Rattle.pl_atoms.proofs.Texts.{same_text-is, same_text-itself}
@@ -18,6 +18,7 @@ use Rattle.unit_model.specs.declared.facts.Ind.{Ind}
 use Rattle.link_model.specs.Places.{Ind as IndOf, same_ind, Role as RoleOf, defining, exporting, Placed as PlacedOf, steps}
 use Rattle.link_model.specs.Giving.{is_defining, is_exporting, defines}
 use Rattle.link_model.specs.Seeing.{Cause as CauseOf}
+use Rattle.mod_visible.specs.declared.cause.Sort.{Sort}
 use Rattle.mod_visible.specs.declared.cause.Sort.TheVariants.{Seeing, Giving}
 use Rattle.mod_visible.specs.declared.cause.Cause.{Cause}
 use Rattle.mod_visible.specs.declared.keys.Procedure.{Procedure}
@@ -28,10 +29,10 @@ use Rattle.mod_visible.specs.declared.placed.Placed.{Placed}
 use Rattle.mod_visible.specs.Placing.{IsBelow, AllBelow, placed_view, places_view, placed_by, role_view, role_by, role_names}
 use Rattle.mod_visible.specs.Keys.{procedure, same_procedure, same_given}
 use Rattle.mod_visible.specs.Kinds.{first_by, own_by, firsts}
-use Rattle.mod_visible.specs.Causing.{own_cause, is_known, keys_after, first_of, own_of, own_given, found_of, ind_text, cause_text, entry_texts, IsTable, AreDefined, gives_number, Exports}
+use Rattle.mod_visible.specs.Causing.{own_cause, is_known, keys_after, first_of, own_of, own_given, found_of, ind_text, cause_text, entry_texts, IsTable, AreDefined, gives_number, IsNamedCause, AreNamed, Exports}
 use Rattle.mod_visible.proofs.ChainLaws.{same_procedure-is}
 use Rattle.mod_visible.proofs.SpreadLaws.{adds_key}
-use Rattle.mod_visible.proofs.Members.{in-map, in-any}
+use Rattle.mod_visible.proofs.Members.{in-nil, in-cases, in-map, in-any}
 
 -- ---- one more key
 
@@ -168,14 +169,50 @@ module _ (names : List Text) (distinct : AreDistinct names) where
   own_text es p keys h hp (Importing k i) b = refl
   own_text es p keys h hp Idle b = refl
 
+-- ---- names of causes
+
+one_named : (n : ℕ) (p : Placed) (s : Sort) (i : Ind) → p.module.0 < n → i.name.0 < n → AreNamed n (own_cause p s i ∷ [])
+one_named n p s i hp hi c k = elim (in-cases (own_cause p s i) c [] k) [ inl e ↦ subst (IsNamedCause n) e (hp, hi, hp) | inr j ↦ absurd (in-nil c j) ]
+
+none_named : (n : ℕ) → AreNamed n []
+none_named n c k = absurd (in-nil c k)
+
+either_named : (n : ℕ) (b : Bool) (xs ys : List Cause) → AreNamed n xs → AreNamed n ys → AreNamed n (cond b xs ys)
+either_named n true xs ys f g = f
+either_named n false xs ys f g = g
+
+first_named : (n : ℕ) (p : Placed) (keys : List Procedure) → p.module.0 < n → (r : Role) → AllBelow n (role_names (role_view r)) → AreNamed n (first_of r p keys)
+first_named n p keys hp (Defining i) b = either_named n (is_known keys p i) [] (own_cause p Seeing i ∷ []) (none_named n) (one_named n p Seeing i hp b.0)
+first_named n p keys hp (Exporting i) b = none_named n
+first_named n p keys hp (ReexportingAll i) b = none_named n
+first_named n p keys hp (Reexporting k i) b = none_named n
+first_named n p keys hp (Moding i) b = none_named n
+first_named n p keys hp (ImportingAll i) b = none_named n
+first_named n p keys hp (Importing k i) b = none_named n
+first_named n p keys hp Idle b = none_named n
+
+own_named : (n : ℕ) (p : Placed) (keys : List Procedure) → p.module.0 < n → (r : Role) → AllBelow n (role_names (role_view r)) → AreNamed n (own_of r p keys)
+own_named n p keys hp (Exporting i) b = either_named n (is_known keys p i) (own_cause p Giving i ∷ []) [] (one_named n p Giving i hp b.0) (none_named n)
+own_named n p keys hp (Defining i) b = none_named n
+own_named n p keys hp (ReexportingAll i) b = none_named n
+own_named n p keys hp (Reexporting k i) b = none_named n
+own_named n p keys hp (Moding i) b = none_named n
+own_named n p keys hp (ImportingAll i) b = none_named n
+own_named n p keys hp (Importing k i) b = none_named n
+own_named n p keys hp Idle b = none_named n
+
+both_named : (n : ℕ) (xs ys : List Cause) → AreNamed n xs → AreNamed n ys → AreNamed n (xs ++ ys)
+both_named n xs ys f g c k = elim (Contains-append_cases xs ys c k) [ inl i ↦ f c i | inr j ↦ g c j ]
+
 -- ---- the loop over what is defined
 
 pub record DefinedSoFar (names : List Text) (es : List Placed) (keys : List Procedure) (before causes : List Cause) : Type 0 where
   pub defined : AreDefined names es keys
   pub causes_are : map (cause_text names) causes ≡ map (cause_text names) before ++ firsts (entry_texts names es)
+  pub named : AreNamed (length names) before → AreNamed (length names) causes
 
 pub defined_start : (names : List Text) (before : List Cause) → DefinedSoFar names [] [] before before
-defined_start names before = record { defined = λ m n a hm hn. refl; causes_are = sym (append-nil (map (cause_text names) before)) }
+defined_start names before = record { defined = λ m n a hm hn. refl; causes_are = sym (append-nil (map (cause_text names) before)); named = λ h. h }
 
 pub defined_step : (names : List Text) (entries : List Placed) (k : ℕ) (d : Placed) (keys keys' : List Procedure) (before causes causes' : List Cause) → k < length entries → IsTable names entries → DefinedSoFar names (take k entries) keys before causes
     → keys' ≡ keys_after (get_or entries k d).role (get_or entries k d) keys → causes' ≡ causes ++ first_of (get_or entries k d).role (get_or entries k d) keys → DefinedSoFar names (take (k + 1) entries) keys' before causes'
@@ -192,6 +229,7 @@ defined_step names entries k d keys keys' before causes causes' lt table h ks cs
           ∙ ap (λ l. map (cause_text names) before ++ (firsts (entry_texts names es) ++ l)) text
           ∙ ap (λ l. map (cause_text names) before ++ l) (sym (firsts-push (entry_texts names es) (text_of names p)))
           ∙ ap (λ l. map (cause_text names) before ++ firsts l) (sym (entry_texts-push names es p));
+      named = λ n. subst (AreNamed (length names)) (sym cs) (both_named (length names) causes (first_of p.role p keys) (h.named n) (first_named (length names) p keys below.0 p.role below.1));
     })
 
 -- ---- the loop over what is exported
@@ -200,9 +238,10 @@ pub record ExportedSoFar (names : List Text) (entries es : List Placed) (before 
   pub only : (g : Given) → Contains found g → (g.definer ≡ g.procedure.module) × (g.procedure.module < length names) × (g.procedure.name < length names) × (gives_number names (entry_texts names entries) g.procedure ≡ true)
   pub all : (p : Procedure) → p.module < length names → p.name < length names → list_any (is_exporting (text_at names p.module) (ind_text names p.name p.arity)) (entry_texts names es) ≡ true → defines (entry_texts names entries) (text_at names p.module) (ind_text names p.name p.arity) ≡ true → Contains found (record { procedure = p; definer = p.module })
   pub causes_are : map (cause_text names) causes ≡ map (cause_text names) before ++ flat_map (λ q. own_by q.role (entry_texts names entries) q) (entry_texts names es)
+  pub named : AreNamed (length names) before → AreNamed (length names) causes
 
 pub exported_start : (names : List Text) (entries : List Placed) (before : List Cause) → ExportedSoFar names entries [] before [] before
-exported_start names entries before = record { only = λ g i. absurd (let lt : i.0 < 0 = i.1 in omega arith); all = λ p hm hn h. absurd cc; causes_are = sym (append-nil (map (cause_text names) before)) }
+exported_start names entries before = record { only = λ g i. absurd (let lt : i.0 < 0 = i.1 in omega arith); all = λ p hm hn h. absurd cc; causes_are = sym (append-nil (map (cause_text names) before)); named = λ h. h }
 
 module _ (names : List Text) (entries : List Placed) (table : IsTable names entries) (keys : List Procedure) (defined : AreDefined names entries keys) (p : Placed) (member : Contains entries p) (below : IsBelow (length names) (placed_view p)) where
   abbrev ps : List (PlacedOf Text)
@@ -300,6 +339,7 @@ module _ (names : List Text) (entries : List Placed) (table : IsTable names entr
             ∙ ap (λ l. map (cause_text names) before ++ (flat_map f (entry_texts names es) ++ l)) (own_text names table.distinct entries p keys defined below.0 p.role below.1 ∙ sym (append-nil (own_by (text_of names p).role ps (text_of names p))))
             ∙ ap (λ l. map (cause_text names) before ++ l) (sym (flat_map-append f (entry_texts names es) (text_of names p ∷ [])))
             ∙ ap (λ l. map (cause_text names) before ++ flat_map f l) (sym (entry_texts-push names es p));
+        named = λ n. both_named (length names) causes (own_of p.role p keys) (h.named n) (own_named (length names) p keys below.0 p.role below.1);
       }
 
 pub exported_step : (names : List Text) (entries : List Placed) (keys : List Procedure) (k : ℕ) (d : Placed) (before : List Cause) (found found' : List Given) (causes causes' : List Cause) → k < length entries → IsTable names entries → AreDefined names entries keys → ExportedSoFar names entries (take k entries) before found causes
@@ -322,6 +362,7 @@ exported_end names entries k before found causes le h =
             w.all p hm hn a.0 a.1;
       };
       causes_are = w.causes_are;
+      named = w.named;
     }
 
 pub defined_end : (names : List Text) (entries : List Placed) (k : ℕ) (keys : List Procedure) (before causes : List Cause) → length entries ≤ k → DefinedSoFar names (take k entries) keys before causes → DefinedSoFar names entries keys before causes

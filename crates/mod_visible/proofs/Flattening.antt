@@ -9,7 +9,7 @@ use Rattle.std.proofs.lemmas.List.{append-nil, take_all, length-map, length-take
 use Rattle.std.proofs.lemmas.Map.Keys.{IsDistinct-push}
 use Rattle.std.proofs.lemmas.Option.{get_or_from_slice_get, slice_get_within}
 use Rattle.pl_atoms.specs.Names.{same_text, with_text, with_texts, AreDistinct, IsFront, Remaps}
-use Rattle.pl_atoms.proofs.Numbers.{get_or-front, slice_get-Remaps, length-Remaps, length-front}
+use Rattle.pl_atoms.proofs.Numbers.{IsFront-grown, get_or-front, slice_get-Remaps, length-Remaps, length-front}
 use Rattle.pl_terms.specs.Trees.{Tree, var, int, atom, comp, count, renamed, all_renamed}
 use Rattle.unit_model.specs.Facts.{Indicator, Facts as FactsOf, tree_names, names_of, indicator_by, what_by, entry_by, section_by}
 use Rattle.unit_model.specs.Directives.{Text}
@@ -262,3 +262,13 @@ module _ (names more : List Text) (numbers : List ℕ) (old new : List Placed) (
 
 pub flat_all : (names : List Text) (entries : List Placed) (units : List ReadUnit) (k : ℕ) → length units ≤ k → IsFlat names entries (map unit_facts (take k units)) → IsFlat names entries (map unit_facts units)
 flat_all names entries units k le h = subst (λ l. IsFlat names entries (map unit_facts l)) (take_all k units le) h
+
+-- one more name
+pub flat_grown : (names more : List Text) (t : Text) (entries : List Placed) (units : List (FactsOf Text)) → more ≡ with_text names t → IsFlat names entries units → IsFlat more entries units
+flat_grown names more t entries units grown h =
+    let front = IsFront-grown names more t grown in
+    record {
+      distinct = subst AreDistinct (sym grown) (distinct-with_text names t h.distinct);
+      below = places-below-more (length names) (length more) (length-front names more front) (places_view entries) h.below;
+      places = places-kept names more front (places_view entries) h.below ∙ h.places;
+    }

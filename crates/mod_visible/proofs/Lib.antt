@@ -6,3 +6,13 @@ mod Members
 mod CauseLaws
 mod CausingLaws
 mod DefiningLaws
+mod OrderedLaws
+mod LeastLaws
+mod LoopLaws
+mod NameLaws
+mod PlaceLaws
+mod FindingLaws
+mod ExistingLaws
+mod LookLaws
+mod RowLaws
+mod ClashLaws

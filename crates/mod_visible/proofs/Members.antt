@@ -107,3 +107,7 @@ module _ {A : Type 0} (p : A → Bool) where
     | inl a ↦ (z, in-here z xs, a)
     | inr b ↦ let r = of-any xs b in (r.0, in-there z r.0 xs r.1, r.2)
   ]
+
+pub made_if : {A : Type 0} (b : Bool) (x y : A) → cond b (Some x) None ≡ Some y → (b ≡ true) × (x ≡ y)
+made_if true x y e = (refl, (let f : Some x ≡ Some y = e in cc))
+made_if false x y e = absurd cc

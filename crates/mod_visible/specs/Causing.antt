@@ -81,8 +81,15 @@ pub record AreSeeds (names : List Text) (ps : List (PlacedOf Text)) (found : Lis
   pub only : (g : Given) → Contains found g → (g.definer ≡ g.procedure.module) × (g.procedure.module < length names) × (g.procedure.name < length names) × (gives_number names ps g.procedure ≡ true)
   pub all : (p : Procedure) → p.module < length names → p.name < length names → gives_number names ps p ≡ true → Contains found (record { procedure = p; definer = p.module })
 
+abbrev pub IsNamedCause : ℕ → Cause → Type 0
+IsNamedCause n c = (c.module.0 < n) × (c.ind.name.0 < n) × (c.definer.0 < n)
+
+abbrev pub AreNamed : ℕ → List Cause → Type 0
+AreNamed n cs = (c : Cause) → Contains cs c → IsNamedCause n c
+
 -- the causes of the entries, in some order, with names of the table
 pub record AreCauses (names : List Text) (entries : List Placed) (cs : List Cause) : Type 0 where
+  pub named : AreNamed (length names) cs
   pub there : (c : Cause) → Contains cs c → Contains (causes (entry_texts names entries)) (cause_text names c)
   pub all : (x : CauseOf) → Contains (causes (entry_texts names entries)) x → (c : Cause) × (Contains cs c) × (cause_text names c ≡ x)
 
@@ -90,3 +97,4 @@ pub record AreCauses (names : List Text) (entries : List Placed) (cs : List Caus
 pub record Exports (names : List Text) (entries : List Placed) (before : List Cause) (found : List Given) (after : List Cause) : Type 0 where
   pub seeds : AreSeeds names (entry_texts names entries) found
   pub causes_are : map (cause_text names) after ≡ map (cause_text names) before ++ owns (entry_texts names entries)
+  pub named : AreNamed (length names) before → AreNamed (length names) after

@@ -4,3 +4,10 @@ pub mod Takers
 pub mod Closing
 pub mod Kinds
 pub mod Causing
+pub mod Ordered
+pub mod Leasts
+pub mod Existing
+pub mod Finding
+pub mod Looking
+pub mod Clashing
+pub mod Visibility

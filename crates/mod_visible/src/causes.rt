@@ -1,11 +1,11 @@
 //! The causes of visibility and of giving.
-ghost use Rattle.std.specs.Prelude.{◌≡◌, List, [], ◌++◌, map, not, IfOk, OnOk};
+ghost use Rattle.std.specs.Prelude.{◌≡◌, List, [], ◌++◌, length, map, not, IfOk, OnOk};
 ghost use Rattle.std.specs.List.{list_any};
 ghost use Rattle.indexmap.specs.IndexSet.{insert_key};
 ghost use Rattle.unit_model.specs.Directives.{Text};
 ghost use Rattle.mod_visible.specs.Keys.{same_procedure};
 ghost use Rattle.mod_visible.specs.Kinds.{firsts};
-ghost use Rattle.mod_visible.specs.Causing.{own_cause, keys_after, first_of, own_of, found_of, cause_text, entry_texts, IsTable, AreDefined, Exports, AreCauses};
+ghost use Rattle.mod_visible.specs.Causing.{own_cause, keys_after, first_of, own_of, found_of, cause_text, entry_texts, IsTable, AreDefined, AreNamed, Exports, AreCauses};
 ghost use Rattle.mod_visible.specs.declared.placed.Role.TheVariants.{Defining, Exporting};
 
 use crate::cause::{Cause, Sort};
@@ -81,6 +81,7 @@ fn defined_by(
     causes: &mut Vec<Cause>,
 ) -> Result<Defined, NoMemory>
     ensures defined { IfOk result (λ d. (names : List Text) → IsTable names entries.now → AreDefined names entries.now d.procedures.keys) }
+    ensures named { OnOk result ((names : List Text) → IsTable names entries.now → AreNamed (length names) causes.old.items → AreNamed (length names) causes.new.items) }
     ensures causes { OnOk result ((names : List Text) → IsTable names entries.now → map (cause_text names) causes.new.items ≡ map (cause_text names) causes.old.items ++ firsts (entry_texts names entries.now)) }
 {
     let mut defined = Defined::new(alloc);

@@ -15,7 +15,6 @@ use Rattle.value_model.specs.declared.Operation.TheVariants.{One, Two}
 use Rattle.value_model.specs.declared.Unary.{Unary}
 use Rattle.value_model.specs.declared.Binary.{Binary}
 use Rattle.value_model.specs.Value.{value, values, apply_one, apply_two, operation_of, after, combine}
-use Rattle.pl_terms.specs.NameBounds.{NamesBelow}
 use Rattle.pl_arith.specs.declared.expression.Task.{Task}
 use Rattle.pl_arith.specs.declared.expression.Task.TheVariants as T
 use Rattle.pl_arith.specs.Tasks.{pushed, done_two, onwards, run, Stepped, weights}
@@ -123,7 +122,7 @@ stepped_one s names at arg f op old new zs o ref e pushes =
       same = ap (λ ts. run s names ts zs) pushes ∙ (ap (λ t. onwards (pushed (value names t) zs) (run s names (T.One op ∷ old))) a
           ∙ (run_one s names (value names o.inner) op old zs ∙ ap (λ v. onwards (pushed v zs) (run s names old)) (sym o.worth)));
       one_left = λ h. rw pushes h;
-      ok = λ n h. rw pushes ((ref, rw a (subst (NamesBelow n) o.is h.0.1).1.0), (tt, h.1));
+      ok = λ h. rw pushes (ref, (tt, h.1));
       smaller = omega (arith, ap (weights s) pushes, ap size a, ap size o.is);
     }
 
@@ -138,7 +137,7 @@ stepped_two s names at l r f op old new zs o refl_l el refl_r er pushes =
           ∙ (ap (λ t. onwards (pushed (value names o.left) zs) (λ xs. onwards (pushed (value names t) xs) (run s names (T.Two op ∷ old)))) b
           ∙ (run_two s names (value names o.left) (value names o.right) op old zs ∙ ap (λ v. onwards (pushed v zs) (run s names old)) (sym o.worth))));
       one_left = λ h. rw pushes h;
-      ok = λ n h. let named = (subst (NamesBelow n) o.is h.0.1).1 in rw pushes ((refl_l, rw a named.0), ((refl_r, rw b named.1.0), (tt, h.1)));
+      ok = λ h. rw pushes (refl_l, (refl_r, (tt, h.1)));
       smaller = omega (arith, ap (weights s) pushes, ap size a, ap size b, ap size o.is);
     }
 

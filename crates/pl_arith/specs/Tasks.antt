@@ -6,7 +6,6 @@ use Rattle.value_model.specs.declared.EvalFault.{EvalFault}
 use Rattle.value_model.specs.declared.EvalFault.TheVariants.{NoMemory}
 use Rattle.value_model.specs.declared.Unary.{Unary}
 use Rattle.value_model.specs.declared.Binary.{Binary}
-use Rattle.pl_terms.specs.NameBounds.{NamesBelow}
 use Rattle.value_model.specs.Value.{value, apply_one, apply_two}
 use Rattle.pl_arith.specs.declared.expression.Task.{Task}
 use Rattle.pl_arith.specs.declared.expression.Task.TheVariants as T
@@ -41,14 +40,14 @@ run s names [] zs = Ok zs
 run s names (t ∷ ts) zs = onwards (done s names t zs) (run s names ts)
 
 -- the task is one on a place of the store
-abbrev pub TaskOk : State → ℕ → Task → Type 0
-TaskOk s n (T.Tree at) = IsRef s at × NamesBelow n (tree_at s at)
-TaskOk s n (T.One op) = Unit {0}
-TaskOk s n (T.Two op) = Unit {0}
+abbrev pub TaskOk : State → Task → Type 0
+TaskOk s (T.Tree at) = IsRef s at
+TaskOk s (T.One op) = Unit {0}
+TaskOk s (T.Two op) = Unit {0}
 
-abbrev pub TasksOk : State → ℕ → List Task → Type 0
-TasksOk s n [] = Unit {0}
-TasksOk s n (t ∷ ts) = TaskOk s n t × TasksOk s n ts
+abbrev pub TasksOk : State → List Task → Type 0
+TasksOk s [] = Unit {0}
+TasksOk s (t ∷ ts) = TaskOk s t × TasksOk s ts
 
 -- over so many numbers, each task has those that it takes, and the last leaves one
 abbrev pub LeavesOne : List Task → ℕ → Type 0
@@ -72,6 +71,6 @@ weights s (t ∷ ts) = weight s t + weights s ts
 -- the tasks and numbers became others that end alike
 pub record Stepped (s : State) (names : List (List ℕ)) (old : List Task) (had : List ℤ) (new : List Task) (has : List ℤ) : Type 0 where
   pub same : run s names new has ≡ run s names old had
-  pub ok : (n : ℕ) → TasksOk s n old → TasksOk s n new
+  pub ok : TasksOk s old → TasksOk s new
   pub one_left : LeavesOne old (length had) → LeavesOne new (length has)
   pub smaller : weights s new < weights s old

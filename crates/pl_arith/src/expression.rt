@@ -1,11 +1,11 @@
 //! The value of a term of a store.
 ghost use Rattle.std.specs.Prelude.{◌≡◌, ◌≢◌, ◌<◌, length, OnOk, IfErr, [], ◌∷◌, ◌++◌, reverse, Ok, Err};
 ghost use Rattle.pl_unify.specs.State.{tree_at, IsRef};
-ghost use Rattle.pl_terms.specs.NameBounds.{NamesBelow};
 ghost use Rattle.value_model.specs.Value.{value};
 ghost use Rattle.pl_arith.specs.Tasks.{TasksOk, LeavesOne, Stepped, run, done_one, done_two};
 
 use crate::evaluable::find_operation;
+use crate::name::text_of;
 use crate::number::{apply_one, apply_two};
 use pl_atoms::Names;
 use pl_unify::{Ref, Store, View};
@@ -23,10 +23,9 @@ enum Task {
 /// The value of the term of a place, or why it has none: the first error, where the functor of a compound comes before its
 /// arguments, these from the left, and then the operation (ISO/IEC 13211-1, 9.1).
 ///
-/// `names` are the names of the store's terms.
+/// `names` are the names of the store's terms. A number that it doesn't have stands for the empty text.
 pub fn evaluate(alloc: Global, store: &Store, names: &Names, at: Ref) -> Result<i64, EvalFault>
     requires place { IsRef store.now.state at }
-    requires names { NamesBelow (length names.now) (tree_at store.now.state at) }
     ensures { result ≢ Err EvalFault.NoMemory → result ≡ value names.now (tree_at store.now.state at) }
 {
     let mut work = Vec::new(alloc);
@@ -49,7 +48,7 @@ fn step(
     work: &mut Vec<Task>,
     numbers: &mut Vec<i64>,
 ) -> Result<(), EvalFault>
-    requires tasks { TasksOk store.now.state (length names.now) (task ∷ reverse work.old.items) }
+    requires tasks { TasksOk store.now.state (task ∷ reverse work.old.items) }
     requires enough { LeavesOne (task ∷ reverse work.old.items) (length (reverse numbers.old.items)) }
     ensures ok { OnOk result (Stepped store.now.state names.now (task ∷ reverse work.old.items) (reverse numbers.old.items) (reverse work.new.items) (reverse numbers.new.items)) }
     ensures err { IfErr result (λ e. e ≢ EvalFault.NoMemory → run store.now.state names.now (task ∷ reverse work.old.items) (reverse numbers.old.items) ≡ Err e) }
@@ -69,7 +68,7 @@ fn open(
     work: &mut Vec<Task>,
     numbers: &mut Vec<i64>,
 ) -> Result<(), EvalFault>
-    requires { TasksOk store.now.state (length names.now) (Task.Tree at ∷ reverse work.old.items) }
+    requires { TasksOk store.now.state (Task.Tree at ∷ reverse work.old.items) }
     ensures ok { OnOk result (Stepped store.now.state names.now (Task.Tree at ∷ reverse work.old.items) (reverse numbers.old.items) (reverse work.new.items) (reverse numbers.new.items)) }
     ensures err { IfErr result (λ e. e ≢ EvalFault.NoMemory → value names.now (tree_at store.now.state at) ≡ Err e) }
 {
@@ -77,7 +76,7 @@ fn open(
         View::Var(_) => Err(EvalFault::Instantiation),
         View::Int(z) => push(numbers, z),
         View::Name(name) => Err(EvalFault::NotEvaluable(name, 0)),
-        View::Comp(name, arity) => match find_operation(names.text(name), arity) {
+        View::Comp(name, arity) => match find_operation(text_of(names, name), arity) {
             None => Err(EvalFault::NotEvaluable(name, arity)),
             Some(operation) => match operation {
                 Operation::One(op) => {

@@ -3,6 +3,7 @@
 
 mod evaluable;
 mod expression;
+mod name;
 mod number;
 
 pub use expression::evaluate;

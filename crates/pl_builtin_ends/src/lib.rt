@@ -3,10 +3,12 @@
 
 mod done;
 mod ending;
+mod made;
 mod name;
 mod unification;
 
 pub use done::{Done, Raised, whether};
 pub use ending::settle;
-pub use name::intern;
+pub use made::{add_names, names_law};
+pub use name::{intern, text_of};
 pub use unification::{unify, unify_two};

@@ -1,9 +1,8 @@
 -- What one look at a list tells.
-use Rattle.std.proofs.Common.{◌≡◌, ◌∙◌, ℕ, zero, suc, ◌+◌, ◌<◌, ◌≤◌, List, [], ◌∷◌, ◌++◌, map, refl, ap, sym, subst, arith, codes, Bool, true, false, nat_eq, ◌&&◌, if◌then◌else◌}
+use Rattle.std.proofs.Common.{◌≡◌, ◌∙◌, ℕ, suc, ◌<◌, List, [], ◌∷◌, ◌++◌, map, refl, ap, sym, subst, arith, codes, Bool, true, false, nat_eq, ◌&&◌, if◌then◌else◌}
 use Rattle.std.proofs.lemmas.Bool.{eqb-true}
 use Rattle.pl_atoms.specs.Names.{same_text}
 use Rattle.pl_terms.specs.Trees.{Tree, var, int, atom, comp, nil, cons, count}
-use Rattle.pl_terms.specs.NameBounds.{NamesBelow}
 use Rattle.run_model.specs.Substitution.{size}
 use Rattle.pl_unify.specs.declared.word.Ref.{Ref}
 use Rattle.pl_unify.specs.declared.word.View.TheVariants as V
@@ -88,7 +87,6 @@ module _ (names : List (List ℕ)) where
   pub record Cell (t : Tree ℕ) : Type 0 where
     pub arity : arity t ≡ 2
     pub listing : listing (by_numbers names) t ≡ before (argument t 0) (listing (by_numbers names) (argument t 1))
-    pub named : NamesBelow (Rattle.std.proofs.Common.length names) t → NamesBelow (Rattle.std.proofs.Common.length names) (argument t 1)
     pub smaller : size (argument t 1) < size t
 
   not-two : (f g : _) (k j : ℕ) → V.Comp f k ≡ V.Comp g j → is_cell (text_of names f.0) k ≡ true → j ≡ 2
@@ -106,7 +104,6 @@ module _ (names : List (List ℕ)) where
       record {
         arity = refl;
         listing = ap (λ q. if q then before a (listing (by_numbers names) b) else improper) dot;
-        named = λ n. n.1.1.0;
         smaller = omega arith;
       }
   listing-cell (comp g (cons a (cons b (cons c ts)))) f k e h = let two = not-two f (record { 0 = g }) k (suc (suc (suc (count ts)))) e h in absurd (omega (arith, two))

@@ -7,3 +7,4 @@ mod Copies
 mod New
 mod Parts
 mod Renumbering
+pub mod Made

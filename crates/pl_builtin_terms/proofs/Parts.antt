@@ -1,5 +1,5 @@
 -- What is done with compounds.
-use Rattle.std.proofs.Common.{◌≡◌, ◌∙◌, ℕ, pos, List, [], ◌∷◌, ap}
+use Rattle.std.proofs.Common.{◌≡◌, ◌∙◌, ℕ, pos, List, [], ◌∷◌, refl, ap}
 use Rattle.pl_terms.specs.Trees.{Tree, var, int, atom, comp, count}
 use Rattle.pl_unify.specs.declared.word.View.TheVariants as V
 use Rattle.pl_unify.specs.Shape.{root}
@@ -24,6 +24,12 @@ univ-comp names (atom m) l f n e = cc
 univ-comp names (comp g ts) l f n e =
     let ef : f ≡ record { 0 = g } = cc in
     ap (λ x. unify l (list_tree names (atom x.0 ∷ listed ts))) ef
+
+pub univ-other : (names : Naming ℕ) (t l : Tree ℕ) → ((n : ℕ) → root t ≡ V.Var n → ⊥) → ((f : _) (n : ℕ) → root t ≡ V.Comp f n → ⊥) → unify l (list_tree names (t ∷ [])) ≡ univ_deed names t l
+univ-other names (var m) l no_var no_comp = absurd (no_var m refl)
+univ-other names (int m) l no_var no_comp = refl
+univ-other names (atom m) l no_var no_comp = refl
+univ-other names (comp g ts) l no_var no_comp = absurd (no_comp (record { 0 = g }) (count ts) refl)
 
 pub two-equal : (a b c d a' b' c' d' : Tree ℕ) → a ≡ a' → b ≡ b' → c ≡ c' → d ≡ d' → ◌≡◌ {A = List (Tree ℕ × Tree ℕ)} ((a, b) ∷ (c, d) ∷ []) ((a', b') ∷ (c', d') ∷ [])
 two-equal a b c d a' b' c' d' e f g h = cc

@@ -5,6 +5,7 @@ ghost use Rattle.pl_unify.specs.State.{tree_at, IsRef, Grows};
 ghost use Rattle.builtin_model.specs.Naming.{by_numbers, number_in};
 ghost use Rattle.builtin_model.specs.Faults.{fault_tree, expected_text, domain_text, evaluation_text};
 ghost use Rattle.pl_builtin_ends.specs.Meets.{fault_of, HasCulprit};
+ghost use Rattle.pl_builtin_ends.specs.Made.{HasNames};
 ghost use Rattle.pl_builtin_terms.specs.ErrorTerms.{kind_text, detail_text, slash_tree, formal_tree, error_tree};
 
 use builtin_model::{Domain, Expected};
@@ -42,6 +43,7 @@ pub fn error_place(
     ensures tree { IfOk result (λ at. tree_at store.new.state at ≡ fault_tree (by_numbers names.new) (fault_of store.old.state fault) name.0 arity) }
     ensures err { OnErr result (store.new.state ≡ store.old.state) }
     ensures front { IsFront names.old names.new }
+    ensures kept { HasNames names.old → names.new ≡ names.old }
 {
     let symbols = error_names(names, fault)?;
     let mark = store.mark();
@@ -61,6 +63,7 @@ fn error_names(names: &mut Names, fault: Raised) -> Result<ErrorNames, NoMemory>
     ensures kind { IfOk result (λ symbols. symbols.kind.0 ≡ number_in names.new (kind_text fault)) }
     ensures detail { IfOk result (λ symbols. symbols.detail.0 ≡ number_in names.new (detail_text fault)) }
     ensures front { IsFront names.old names.new }
+    ensures kept { HasNames names.old → names.new ≡ names.old }
 {
     let error = intern(names, b"error")?;
     let slash = intern(names, b"/")?;

@@ -2,15 +2,15 @@
 ghost use Rattle.std.specs.Prelude.{◌≡◌, ◌≤◌, [], ◌∷◌, length, map, codes, IfOk, OnOk};
 ghost use Rattle.pl_atoms.specs.Names.{IsFront};
 ghost use Rattle.pl_terms.specs.Trees.{comp, nil, cons};
-ghost use Rattle.pl_terms.specs.NameBounds.{NamesBelow};
 ghost use Rattle.pl_unify.specs.Making.{AreRefs};
 ghost use Rattle.pl_unify.specs.State.{tree_at, IsRef, Grows};
 ghost use Rattle.builtin_model.specs.Naming.{by_numbers, number_in};
 ghost use Rattle.builtin_model.specs.Lists.{listing};
+ghost use Rattle.pl_builtin_ends.specs.Made.{HasNames};
 ghost use Rattle.pl_builtin_terms.specs.Items.{list_from, kind_of_end, is_cell, IsListed};
 
 use pl_atoms::{NameId, Names, NoMemory};
-use pl_builtin_ends::intern;
+use pl_builtin_ends::{intern, text_of};
 use pl_unify::{Ref, Store, View};
 
 // The names that lists are made of.
@@ -27,6 +27,7 @@ pub(crate) fn list_names(names: &mut Names) -> Result<ListNames, NoMemory>
     ensures nil { IfOk result (λ symbols. symbols.nil.0 ≡ number_in names.new (codes "[]")) }
     ensures dot { IfOk result (λ symbols. symbols.dot.0 ≡ number_in names.new (codes ".")) }
     ensures front { IsFront names.old names.new }
+    ensures kept { HasNames names.old → names.new ≡ names.old }
 {
     let nil = intern(names, b"[]")?;
     let dot = intern(names, b".")?;
@@ -86,7 +87,6 @@ pub(crate) fn list_items(
 ) -> Result<ListKind, NoMemory>
     requires empty { items.old.items ≡ [] }
     requires place { IsRef store.now.state list }
-    requires named { NamesBelow (length names.now) (tree_at store.now.state list) }
     ensures kind { IfOk result (λ kind. IsListed store.now.state (listing (by_numbers names.now) (tree_at store.now.state list)) items.new.items kind) }
     ensures places { AreRefs store.now.state items.new.items }
 {
@@ -94,10 +94,10 @@ pub(crate) fn list_items(
     'items: loop {
         match store.view(rest) {
             View::Var(_) => return Ok(ListKind::Partial),
-            View::Name(name) => return Ok(kind_of_end(names.text(name))),
+            View::Name(name) => return Ok(kind_of_end(text_of(names, name))),
             View::Int(_) => return Ok(ListKind::Improper),
             View::Comp(name, arity) => {
-                if !is_cell(names.text(name), arity) {
+                if !is_cell(text_of(names, name), arity) {
                     return Ok(ListKind::Improper);
                 }
                 items.push(store.arg(rest, 0))?;

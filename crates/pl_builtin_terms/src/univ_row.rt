@@ -1,7 +1,6 @@
 //! Terms from a name and arguments, and back (ISO/IEC 13211-1, 8.5.3).
 ghost use Rattle.std.specs.Prelude.{◌≡◌, ◌<◌, ◌∷◌, length, map, IfOk, OnErr};
 ghost use Rattle.pl_atoms.specs.Names.{IsFront};
-ghost use Rattle.pl_terms.specs.NameBounds.{NamesBelow};
 ghost use Rattle.pl_terms.specs.Trees.{atom};
 ghost use Rattle.pl_unify.specs.Making.{AreRefs};
 ghost use Rattle.pl_unify.specs.Shape.{arity};
@@ -10,6 +9,7 @@ ghost use Rattle.builtin_model.specs.Naming.{by_numbers};
 ghost use Rattle.builtin_model.specs.Lists.{listing, proper, listed};
 ghost use Rattle.builtin_model.specs.Deeds.{univ_deed, made_by_list};
 ghost use Rattle.pl_builtin_ends.specs.Meets.{Meets, Answers};
+ghost use Rattle.pl_builtin_ends.specs.Made.{HasNames};
 ghost use Rattle.pl_builtin_terms.specs.Walk.{arguments_of};
 ghost use Rattle.pl_builtin_terms.specs.Items.{list_from};
 
@@ -30,10 +30,10 @@ pub fn univ(
     list: Ref,
 ) -> Result<Done, NoMemory>
     requires places { IsRef store.old.state term × IsRef store.old.state list }
-    requires named { NamesBelow (length names.old) (tree_at store.old.state list) }
     ensures done { IfOk result (λ done. Meets store.old.state store.new.state (univ_deed (by_numbers names.new) (tree_at store.old.state term) (tree_at store.old.state list)) done) }
     ensures memory { OnErr result (store.new.state ≡ store.old.state) }
     ensures front { IsFront names.old names.new }
+    ensures kept { HasNames names.old → names.new ≡ names.old }
 {
     let mark = store.mark();
     let ended = unify_parts(alloc, store, names, term, list);
@@ -49,10 +49,10 @@ fn unify_parts(
     list: Ref,
 ) -> Result<Done, NoMemory>
     requires places { IsRef store.old.state term × IsRef store.old.state list }
-    requires named { NamesBelow (length names.old) (tree_at store.old.state list) }
     ensures done { IfOk result (λ done. Answers store.old.state store.new.state (univ_deed (by_numbers names.new) (tree_at store.old.state term) (tree_at store.old.state list)) done) }
     ensures extends { Extends store.old.state store.new.state }
     ensures front { IsFront names.old names.new }
+    ensures kept { HasNames names.old → names.new ≡ names.old }
 {
     match store.view(term) {
         View::Var(_) => unify_made(alloc, store, names, term, list),
@@ -104,7 +104,6 @@ fn unify_made(
     list: Ref,
 ) -> Result<Done, NoMemory>
     requires places { IsRef store.old.state term × IsRef store.old.state list }
-    requires named { NamesBelow (length names.now) (tree_at store.old.state list) }
     ensures done { IfOk result (λ done. Answers store.old.state store.new.state (made_by_list (tree_at store.old.state term) (tree_at store.old.state list) (listing (by_numbers names.now) (tree_at store.old.state list))) done) }
     ensures extends { Extends store.old.state store.new.state }
 {

@@ -10,6 +10,7 @@ ghost use Rattle.builtin_model.specs.Naming.{by_numbers};
 ghost use Rattle.builtin_model.specs.Lists.{list_tree};
 ghost use Rattle.builtin_model.specs.Deeds.{is_ground, whether, unify};
 ghost use Rattle.pl_builtin_ends.specs.Meets.{Meets, Answers};
+ghost use Rattle.pl_builtin_ends.specs.Made.{HasNames};
 ghost use Rattle.pl_builtin_terms.specs.Walk.{IsNext, IsVisit, ArgumentsOn};
 
 use crate::items::{list_names, list_of};
@@ -43,6 +44,7 @@ pub fn term_variables(
     ensures done { IfOk result (λ done. Meets store.old.state store.new.state (unify (tree_at store.old.state list) (list_tree (by_numbers names.new) (map var (variables (tree_at store.old.state term))))) done) }
     ensures memory { OnErr result (store.new.state ≡ store.old.state) }
     ensures front { IsFront names.old names.new }
+    ensures kept { HasNames names.old → names.new ≡ names.old }
 {
     let mark = store.mark();
     let ended = unify_variables(alloc, store, names, term, list);
@@ -61,6 +63,7 @@ fn unify_variables(
     ensures done { IfOk result (λ done. Answers store.old.state store.new.state (unify (tree_at store.old.state list) (list_tree (by_numbers names.new) (map var (variables (tree_at store.old.state term))))) done) }
     ensures extends { Extends store.old.state store.new.state }
     ensures front { IsFront names.old names.new }
+    ensures kept { HasNames names.old → names.new ≡ names.old }
 {
     let places = variable_places(alloc, store, term)?;
     let symbols = list_names(names)?;

@@ -1,12 +1,16 @@
 -- Calls by the numbers of rows: the rows of the table, and errors that write nothing.
 use Rattle.std.proofs.Common.{◌≡◌, ◌∙◌, ℕ, zero, suc, ◌<◌, nat_lt, Bool, true, false, ◌&&◌, List, [], ◌∷◌, ◌++◌, map, length, get_or, Some, None, refl, ap, sym, subst, arith, if◌then◌else◌, Result, Ok, Err}
-use Rattle.std.specs.Prelude.{OnErr}
-use Rattle.std.proofs.lemmas.List.{get_or_past}
+use Rattle.std.specs.Prelude.{OnOk, OnErr}
+use Rattle.std.proofs.lemmas.List.{append-nil, get_or_past}
+use Rattle.std.proofs.lemmas.List.Folds.{list_any_at}
+use Rattle.pl_atoms.specs.Names.{same_text}
+use Rattle.pl_atoms.proofs.Texts.{same_text-itself}
 use Rattle.pl_atoms.specs.CaseTable.{Case, case_of, cases_of}
 use Rattle.pl_atoms.specs.declared.case_table.CaseRow.{CaseRow}
 use Rattle.pl_terms.specs.Trees.{Tree, var, int, atom, comp}
 use Rattle.unit_model.specs.Builtins.{builtins}
-use Rattle.pl_unify.specs.State.{State}
+use Rattle.pl_unify.specs.declared.word.Ref.{Ref}
+use Rattle.pl_unify.specs.State.{State, tree_at}
 use Rattle.builtin_model.specs.declared.error.Expected.TheVariants as X
 use Rattle.builtin_model.specs.declared.row.Row.{Row}
 use Rattle.builtin_model.specs.declared.row.Row.TheVariants as R
@@ -19,6 +23,8 @@ use Rattle.pl_builtin_ends.specs.declared.done.Raised.{Raised}
 use Rattle.pl_builtin_ends.specs.declared.done.Done.{Done}
 use Rattle.pl_builtin_ends.specs.declared.done.Done.TheVariants as D
 use Rattle.pl_builtin_ends.specs.Meets.{Meets, fault_of}
+use Rattle.pl_builtin_ends.specs.Made.{HasText, procedure_names}
+use Rattle.pl_builtin_ends.proofs.Kept.{procedures_in, procedure-at}
 use Rattle.pl_builtins.specs.Ends.{row_at}
 use Rattle.pl_builtins.proofs.Arguments.{is-below, is-not-below}
 
@@ -45,6 +51,13 @@ count-builtins = refl
 
 pub row-count : (xs : List CaseRow) → cases_of xs ≡ builtins → length xs ≡ 62
 row-count xs e = sym (count-map case_of xs) ∙ (ap length e ∙ count-builtins)
+
+-- the name of a row is one of the built-in procedures'
+pub row-name : (xs : List CaseRow) (k : ℕ) → cases_of xs ≡ builtins → k < length xs → HasText (procedure_names builtins) (get_or xs k no_row).name.now
+row-name xs k e low =
+    let t : List ℕ = (get_or xs k no_row).name.now in
+    let here : k < length (procedures_in xs) = omega (arith, count-map (λ (procedure : Case). procedure.name) (cases_of xs), count-map case_of xs) in
+    subst (λ cs. HasText (procedure_names cs) t) e (list_any_at (same_text t) (procedures_in xs) k [] here (ap (same_text t) (procedure-at xs k no_row low) ∙ same_text-itself t))
 
 -- no row has more arguments than a compound may have
 abbrev are-few : List Case → Bool
@@ -122,6 +135,24 @@ module _ {N : Type 0} (n : Naming N) (f : Fault N) where
   silent R.Fail ts c k e = refl
   silent R.Halt ts c k e = refl
   silent R.HaltWith ts c k e = refl
+
+-- with more than two arguments nothing is written
+long-silent : (n : Naming ℕ) (row : Row) (t u v : Tree ℕ) (ts : List (Tree ℕ)) → output n row (t ∷ u ∷ v ∷ ts) ≡ []
+long-silent n R.NewLine t u v ts = refl
+long-silent n R.PutChar t u v ts = refl
+long-silent n (R.Write q) t u v ts = refl
+long-silent n _ t u v ts = refl
+
+long-output : (n : Naming ℕ) (row : Row) (ts : List (Tree ℕ)) → 2 < length ts → output n row ts ≡ []
+long-output n row [] h = absurd (omega arith)
+long-output n row (t ∷ []) h = absurd (omega arith)
+long-output n row (t ∷ u ∷ []) h = absurd (omega arith)
+long-output n row (t ∷ u ∷ v ∷ ts) h = long-silent n row t u v ts
+
+pub long-text : {A B : Type 0} (r : Result A B) (n : Naming ℕ) (row : Row) (s : State) (args : List Ref) (text : List ℕ) → 2 < length args → OnOk r (text ≡ text ++ output n row (map (tree_at s) args))
+long-text (Ok x) n row s args text h =
+    sym (ap (λ written. text ++ written) (long-output n row (map (tree_at s) args) (omega (arith, h, count-map (tree_at s) args))) ∙ append-nil text)
+long-text (Err e) n row s args text h = tt
 
 thrown : (old new : State) (d : Deed ℕ) (done : Done) (r : Raised) → Meets old new d done → done ≡ D.Raise r → raise (fault_of old r) ≡ d
 thrown old new d done r h e = (subst (Meets old new d) e h).1

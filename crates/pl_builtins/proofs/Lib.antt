@@ -1,6 +1,5 @@
 pub mod Arguments
 pub mod Deeds
-pub mod Growth
 pub mod Ordering
 pub mod Valued
 pub mod Ended

@@ -6,7 +6,6 @@ use Rattle.std.specs.Ordering.{nat_cmp, int_cmp, ordering_then}
 use Rattle.pl_terms.specs.Trees.{Tree, Trees, var, int, atom, comp, nil, cons, count}
 use Rattle.pl_terms.specs.Order.{tree_cmp, trees_cmp}
 use Rattle.pl_terms.specs.CellOrder.{name_cmp}
-use Rattle.pl_terms.specs.NameBounds.{NamesBelow, AllNamesBelow}
 use Rattle.run_model.specs.Substitution.{size, sizes}
 use Rattle.pl_unify.specs.declared.word.Ref.{Ref}
 use Rattle.pl_unify.specs.Shape.{root, argument, arity, nth_tree}
@@ -76,7 +75,7 @@ arguments-none s p q k old ep eq =
     record {
       same = λ names. sym (ap (λ ts. ordering_then (trees_cmp (name_cmp names) ts (from k (args_of (tree_at s q)))) (pairs_cmp s names old)) fp
           ∙ ap (λ us. ordering_then (trees_cmp (name_cmp names) nil us) (pairs_cmp s names old)) fq);
-      ok = λ n a b h. h;
+      ok = λ h. h;
       smaller = omega (arith, ap sizes fp);
     }
 
@@ -94,18 +93,9 @@ arguments-more s p q a b i k old mid new ep eq low ra ta rb tb e h =
           ∙ (sym (then-assoc (tree_cmp (name_cmp names) (tree_at s a) (tree_at s b)) _ (pairs_cmp s names old))
           ∙ (ap (λ ts. ordering_then (trees_cmp (name_cmp names) ts (cons (tree_at s b) (from (suc i) (args_of (tree_at s q))))) (pairs_cmp s names old)) (sym fp)
           ∙ ap (λ us. ordering_then (trees_cmp (name_cmp names) (from i (args_of (tree_at s p))) us) (pairs_cmp s names old)) (sym fq))));
-      ok = λ n x y z.
-          let x' = subst (AllNamesBelow n) fp x in
-          let y' = subst (AllNamesBelow n) fq y in
-          subst (PairsOk s n) (sym e) (((ra, x'.0), (rb, y'.0)), h.ok n x'.1 y'.1 z);
+      ok = λ z. subst (PairsOk s) (sym e) ((ra, rb), h.ok z);
       smaller = omega (arith, ap (left_size s) e, h.smaller, ap sizes fp);
     }
-
-names-args : (n : ℕ) (t : Tree ℕ) → NamesBelow n t → AllNamesBelow n (from zero (args_of t))
-names-args n (var m) h = tt
-names-args n (int m) h = tt
-names-args n (atom m) h = tt
-names-args n (comp f ts) h = subst (AllNamesBelow n) (sym (from-none ts)) h.1
 
 size-args : (t : Tree ℕ) → sizes (from zero (args_of t)) < size t
 size-args (var m) = omega arith
@@ -123,7 +113,7 @@ compared-equal s names p q old new o e z h =
           ∙ (ap (λ ts. ordering_then (trees_cmp (name_cmp names) ts (from zero (args_of tq))) (pairs_cmp s names old)) (from-none (args_of tp))
           ∙ (ap (λ us. ordering_then (trees_cmp (name_cmp names) (args_of tp) us) (pairs_cmp s names old)) (from-none (args_of tq))
           ∙ ap (λ x. ordering_then x (pairs_cmp s names old)) (sym (tree_cmp-root names tp tq ∙ ap (λ x. ordering_then x (trees_cmp (name_cmp names) (args_of tp) (args_of tq))) (sym e ∙ z))))));
-      ok = λ n k. h.ok n (names-args n tp k.0.0.1) (names-args n tq k.0.1.1) k.1;
+      ok = λ k. h.ok k.1;
       smaller = omega (arith, h.smaller, size-args tp);
     }
 
@@ -132,11 +122,11 @@ pub compared-other : (s : State) (names : List (List ℕ)) (p q : Ref) (old : Li
 compared-other s names p q old Equal e n = absurd (n refl)
 compared-other s names p q old Less e n = record {
   same = ap (λ x. ordering_then x (pairs_cmp s names old)) (sym (tree_cmp-root names (tree_at s p) (tree_at s q) ∙ ap (λ x. ordering_then x (trees_cmp (name_cmp names) (args_of (tree_at s p)) (args_of (tree_at s q)))) (sym e)));
-  ok = λ k h. h.1;
+  ok = λ h. h.1;
   smaller = omega (arith, size-args (tree_at s p));
 }
 compared-other s names p q old Greater e n = record {
   same = ap (λ x. ordering_then x (pairs_cmp s names old)) (sym (tree_cmp-root names (tree_at s p) (tree_at s q) ∙ ap (λ x. ordering_then x (trees_cmp (name_cmp names) (args_of (tree_at s p)) (args_of (tree_at s q)))) (sym e)));
-  ok = λ k h. h.1;
+  ok = λ h. h.1;
   smaller = omega (arith, size-args (tree_at s p));
 }

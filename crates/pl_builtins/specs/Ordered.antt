@@ -6,7 +6,6 @@ use Rattle.std.specs.Ordering.{nat_cmp, int_cmp, ordering_then}
 use Rattle.pl_terms.specs.Trees.{Tree, Trees, var, int, atom, comp, nil, cons}
 use Rattle.pl_terms.specs.Order.{tree_cmp, trees_cmp}
 use Rattle.pl_terms.specs.CellOrder.{name_cmp}
-use Rattle.pl_terms.specs.NameBounds.{NamesBelow, AllNamesBelow}
 use Rattle.run_model.specs.Substitution.{size, sizes}
 use Rattle.pl_unify.specs.declared.word.Ref.{Ref}
 use Rattle.pl_unify.specs.declared.word.View.{View}
@@ -26,12 +25,6 @@ root_cmp names (V.Name a) u = Greater
 root_cmp names (V.Comp f k) (V.Comp g j) = ordering_then (nat_cmp k j) (name_cmp names f.0 g.0)
 root_cmp names (V.Comp f k) u = Greater
 
-abbrev pub IsNamed : ℕ → View → Type 0
-IsNamed n (V.Var m) = Unit {0}
-IsNamed n (V.Int z) = Unit {0}
-IsNamed n (V.Name a) = a.0 < n
-IsNamed n (V.Comp f k) = f.0 < n
-
 abbrev pub view_arity : View → ℕ
 view_arity (V.Var n) = 0
 view_arity (V.Int z) = 0
@@ -43,12 +36,10 @@ abbrev pub pairs_cmp : State → List (List ℕ) → List (Ref × Ref) → Order
 pairs_cmp s names [] = Equal
 pairs_cmp s names (p ∷ ps) = ordering_then (tree_cmp (name_cmp names) (tree_at s p.0) (tree_at s p.1)) (pairs_cmp s names ps)
 
-abbrev pub PairOk : State → ℕ → Ref × Ref → Type 0
-PairOk s n p = (IsRef s p.0 × NamesBelow n (tree_at s p.0)) × (IsRef s p.1 × NamesBelow n (tree_at s p.1))
-
-abbrev pub PairsOk : State → ℕ → List (Ref × Ref) → Type 0
-PairsOk s n [] = Unit {0}
-PairsOk s n (p ∷ ps) = PairOk s n p × PairsOk s n ps
+-- the places of the pairs are there
+abbrev pub PairsOk : State → List (Ref × Ref) → Type 0
+PairsOk s [] = Unit {0}
+PairsOk s (p ∷ ps) = (IsRef s p.0 × IsRef s p.1) × PairsOk s ps
 
 -- the nodes of the left sides
 abbrev pub left_size : State → List (Ref × Ref) → ℕ
@@ -58,7 +49,7 @@ left_size s (p ∷ ps) = size (tree_at s p.0) + left_size s ps
 -- one pair was compared at its roots, and its arguments are there in its place
 pub record Compared (s : State) (names : List (List ℕ)) (old new : List (Ref × Ref)) (o : Ordering) : Type 0 where
   pub same : ordering_then o (pairs_cmp s names new) ≡ pairs_cmp s names old
-  pub ok : (n : ℕ) → PairsOk s n old → PairsOk s n new
+  pub ok : PairsOk s old → PairsOk s new
   pub smaller : left_size s new < left_size s old
 
 abbrev pub args_of : Tree ℕ → Trees ℕ
@@ -76,5 +67,5 @@ from (suc i) (cons t ts) = from i ts
 -- the pairs of the arguments of p and q from i on stand in front of the old ones
 pub record ArgumentsOn (s : State) (p q : Ref) (i : ℕ) (old new : List (Ref × Ref)) : Type 0 where
   pub same : (names : List (List ℕ)) → pairs_cmp s names new ≡ ordering_then (trees_cmp (name_cmp names) (from i (args_of (tree_at s p))) (from i (args_of (tree_at s q)))) (pairs_cmp s names old)
-  pub ok : (n : ℕ) → AllNamesBelow n (from i (args_of (tree_at s p))) → AllNamesBelow n (from i (args_of (tree_at s q))) → PairsOk s n old → PairsOk s n new
+  pub ok : PairsOk s old → PairsOk s new
   pub smaller : left_size s new ≡ sizes (from i (args_of (tree_at s p))) + left_size s old

@@ -1,18 +1,19 @@
 //! The built-in predicates by their rows.
-ghost use Rattle.std.specs.Prelude.{◌≡◌, ℕ, ◌++◌, ◌<◌, [], ◌∷◌, map, length, All, IfOk, OnOk, OnErr};
+ghost use Rattle.std.specs.Prelude.{◌≡◌, ℕ, ◌++◌, [], ◌∷◌, map, All, IfOk, OnOk, OnErr};
 ghost use Rattle.pl_atoms.specs.Names.{IsFront};
 ghost use Rattle.pl_ops.specs.Standard.{standard};
 ghost use Rattle.pl_ops.specs.Tables.{operator};
-ghost use Rattle.pl_terms.specs.NameBounds.{NamesBelow};
 ghost use Rattle.pl_unify.specs.State.{State, tree_at, IsRef};
 ghost use Rattle.builtin_model.specs.Naming.{Naming, by_numbers};
 ghost use Rattle.builtin_model.specs.Deeds.{deed, yes};
 ghost use Rattle.builtin_model.specs.Output.{output, written_text};
+ghost use Rattle.pl_builtin_ends.specs.Made.{HasNames};
 ghost use Rattle.pl_builtin_ends.specs.Meets.{Meets};
 
 use crate::argument::arg;
+use crate::comparison::compare;
 use crate::control::{calling_context, halt};
-use crate::order::{compare, test_order};
+use crate::order::test_order;
 use crate::output::{new_line, put_char};
 use crate::type_test::test_type;
 use crate::unification::{not_unifiable, unify};
@@ -28,8 +29,8 @@ use text_model::Quote;
 
 /// Does what a built-in predicate does with arguments at places of the store, called from the module `caller`.
 ///
-/// Terms are written with the operators of `table`, which are the standard ones. Names that it writes into terms are put into
-/// `names`, and bytes that it writes are put last in `text`. The store is as before unless the predicate succeeds.
+/// Terms are written with the operators of `table`, which are the standard ones. A name has its text in `names`: the empty text
+/// where its number is none of the table. Names that it writes into terms are put into `names` unless they are there, and bytes that it writes are put last in `text`. The store is as before unless the predicate succeeds.
 ///
 /// The only error is want of memory. After it the store and `text` are as before, and `names` may hold more names.
 pub fn run(
@@ -43,13 +44,13 @@ pub fn run(
     text: &mut Bytes,
 ) -> Result<Done, NoMemory>
     requires places { All (λ r. IsRef store.old.state r) args.now }
-    requires named { All (λ r. NamesBelow (length names.old) (tree_at store.old.state r)) args.now }
     requires standard { operator table.now ≡ operator standard }
     ensures done { IfOk result (λ done. Meets store.old.state store.new.state (deed (by_numbers names.new) row (map (tree_at store.old.state) args.now) caller.0 store.old.state.next) done) }
     ensures text { OnOk result (text.new ≡ text.old ++ output (by_numbers names.new) row (map (tree_at store.old.state) args.now)) }
     ensures store { OnErr result (store.new.state ≡ store.old.state) }
     ensures bytes { OnErr result (text.new ≡ text.old) }
     ensures front { IsFront names.old names.new }
+    ensures kept { HasNames names.old → names.new ≡ names.old }
 {
     match args {
         [] => run_alone(row, text),
@@ -86,7 +87,6 @@ fn run_one(
     text: &mut Bytes,
 ) -> Result<Done, NoMemory>
     requires place { IsRef store.old.state at }
-    requires named { NamesBelow (length names.now) (tree_at store.old.state at) }
     requires standard { operator table.now ≡ operator standard }
     ensures done { IfOk result (λ done. Meets store.old.state store.new.state (deed (by_numbers names.now) row (tree_at store.old.state at ∷ []) caller.0 store.old.state.next) done) }
     ensures text { OnOk result (text.new ≡ text.old ++ output (by_numbers names.now) row (tree_at store.old.state at ∷ [])) }
@@ -113,11 +113,12 @@ fn run_two(
     left: Ref,
     right: Ref,
 ) -> Result<Done, NoMemory>
-    requires left { IsRef store.old.state left × NamesBelow (length names.old) (tree_at store.old.state left) }
-    requires right { IsRef store.old.state right × NamesBelow (length names.old) (tree_at store.old.state right) }
+    requires left { IsRef store.old.state left }
+    requires right { IsRef store.old.state right }
     ensures done { IfOk result (λ done. (caller : ℕ) → Meets store.old.state store.new.state (deed (by_numbers names.new) row (tree_at store.old.state left ∷ tree_at store.old.state right ∷ []) caller store.old.state.next) done) }
     ensures store { OnErr result (store.new.state ≡ store.old.state) }
     ensures front { IsFront names.old names.new }
+    ensures kept { HasNames names.old → names.new ≡ names.old }
 {
     match row {
         Row::Unify => unify(store, left, right),
@@ -142,12 +143,13 @@ fn run_three(
     second: Ref,
     third: Ref,
 ) -> Result<Done, NoMemory>
-    requires first { IsRef store.old.state first × NamesBelow (length names.old) (tree_at store.old.state first) }
-    requires second { IsRef store.old.state second × NamesBelow (length names.old) (tree_at store.old.state second) }
-    requires third { IsRef store.old.state third × NamesBelow (length names.old) (tree_at store.old.state third) }
+    requires first { IsRef store.old.state first }
+    requires second { IsRef store.old.state second }
+    requires third { IsRef store.old.state third }
     ensures done { IfOk result (λ done. (caller : ℕ) → Meets store.old.state store.new.state (deed (by_numbers names.new) row (tree_at store.old.state first ∷ tree_at store.old.state second ∷ tree_at store.old.state third ∷ []) caller store.old.state.next) done) }
     ensures store { OnErr result (store.new.state ≡ store.old.state) }
     ensures front { IsFront names.old names.new }
+    ensures kept { HasNames names.old → names.new ≡ names.old }
 {
     match row {
         Row::Compare => compare(alloc, store, names, first, second, third),

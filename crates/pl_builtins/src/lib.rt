@@ -2,6 +2,7 @@
 #![tactic(auto)]
 
 mod argument;
+mod comparison;
 mod control;
 mod dispatch;
 mod numbered;
@@ -14,7 +15,7 @@ mod value;
 
 pub use dispatch::run;
 pub use numbered::{Outcome, call};
-pub use pl_builtin_ends::{Done, Raised};
+pub use pl_builtin_ends::{Done, Raised, add_names};
 pub use row_table::row_of;
 
 #[cfg(test)]

@@ -1,19 +1,16 @@
 //! The standard order of terms of a store (ISO/IEC 13211-1, 7.2 and 8.4).
-ghost use Rattle.std.specs.Prelude.{◌≡◌, ◌++◌, ◌∷◌, [], ◌<◌, length, reverse, IfOk, OnOk, OnErr};
-ghost use Rattle.pl_terms.specs.NameBounds.{NamesBelow};
+ghost use Rattle.std.specs.Prelude.{◌≡◌, ◌++◌, ◌∷◌, [], reverse, IfOk, OnOk};
 ghost use Rattle.pl_terms.specs.CellOrder.{name_cmp};
-ghost use Rattle.pl_atoms.specs.Names.{IsFront};
 ghost use Rattle.pl_unify.specs.Shape.{arity};
 ghost use Rattle.pl_unify.specs.State.{tree_at, IsRef};
 ghost use Rattle.builtin_model.specs.Naming.{by_numbers};
-ghost use Rattle.builtin_model.specs.Deeds.{order, order_holds, order_text, is_order, whether, ordered, compare_deed};
+ghost use Rattle.builtin_model.specs.Deeds.{order, order_holds, whether};
 ghost use Rattle.pl_builtin_ends.specs.Meets.{Meets};
-ghost use Rattle.pl_builtins.specs.Ordered.{root_cmp, IsNamed, PairsOk, Compared, view_arity, ArgumentsOn};
+ghost use Rattle.pl_builtins.specs.Ordered.{root_cmp, PairsOk, Compared, view_arity, ArgumentsOn};
 
-use crate::unification::unify_name;
-use builtin_model::{Domain, Expected, OrderTest};
+use builtin_model::OrderTest;
 use pl_atoms::{NameId, Names, NoMemory};
-use pl_builtin_ends::{Done, Raised, intern, whether};
+use pl_builtin_ends::{Done, text_of, whether};
 use pl_unify::{Ref, Store, View};
 use std::alloc::Global;
 use std::cmp::Ordering;
@@ -27,8 +24,8 @@ pub fn test_order(
     left: Ref,
     right: Ref,
 ) -> Result<Done, NoMemory>
-    requires left { IsRef store.now.state left × NamesBelow (length names.now) (tree_at store.now.state left) }
-    requires right { IsRef store.now.state right × NamesBelow (length names.now) (tree_at store.now.state right) }
+    requires left { IsRef store.now.state left }
+    requires right { IsRef store.now.state right }
     ensures { IfOk result (λ done. Meets store.now.state store.now.state (whether (order_holds test (order (by_numbers names.now) (tree_at store.now.state left) (tree_at store.now.state right)))) done) }
 {
     let found = standard_order(alloc, store, names, left, right)?;
@@ -48,7 +45,7 @@ fn order_holds(test: OrderTest, found: Ordering) -> bool
     }
 }
 
-/// The standard order of two terms whose names are in `names`.
+/// The standard order of two terms, whose names have their texts in `names`.
 pub fn standard_order(
     alloc: Global,
     store: &Store,
@@ -56,8 +53,8 @@ pub fn standard_order(
     left: Ref,
     right: Ref,
 ) -> Result<Ordering, NoMemory>
-    requires left { IsRef store.now.state left × NamesBelow (length names.now) (tree_at store.now.state left) }
-    requires right { IsRef store.now.state right × NamesBelow (length names.now) (tree_at store.now.state right) }
+    requires left { IsRef store.now.state left }
+    requires right { IsRef store.now.state right }
     ensures { IfOk result (λ found. found ≡ order (by_numbers names.now) (tree_at store.now.state left) (tree_at store.now.state right)) }
 {
     let mut work = Vec::new(alloc);
@@ -85,7 +82,7 @@ fn compare_next(
     right: Ref,
     work: &mut Vec<(Ref, Ref)>,
 ) -> Result<Ordering, NoMemory>
-    requires { PairsOk store.now.state (length names.now) ((left, right) ∷ reverse work.old.items) }
+    requires { PairsOk store.now.state ((left, right) ∷ reverse work.old.items) }
     ensures { IfOk result (λ found. Compared store.now.state names.now ((left, right) ∷ reverse work.old.items) (reverse work.new.items) found) }
 {
     let root = store.view(left);
@@ -107,8 +104,6 @@ fn arity_of(view: View) -> u8
 }
 
 fn compare_roots(names: &Names, left: View, right: View) -> Ordering
-    requires left { IsNamed (length names.now) left }
-    requires right { IsNamed (length names.now) right }
     ensures { result ≡ root_cmp names.now left right }
 {
     match left {
@@ -138,11 +133,9 @@ fn compare_roots(names: &Names, left: View, right: View) -> Ordering
 }
 
 fn compare_names(names: &Names, left: NameId, right: NameId) -> Ordering
-    requires left { left.0 < length names.now }
-    requires right { right.0 < length names.now }
     ensures { result ≡ name_cmp names.now left.0 right.0 }
 {
-    names.text(left).cmp(names.text(right))
+    text_of(names, left).cmp(text_of(names, right))
 }
 
 // Puts the pairs of arguments on, so that the first is the next one.
@@ -173,70 +166,4 @@ fn push_pair(work: &mut Vec<(Ref, Ref)>, left: Ref, right: Ref) -> Result<(), No
         Ok(()) => Ok(()),
         Err(_) => Err(NoMemory),
     }
-}
-
-/// Unifies a term with `<`, `=` or `>`, as two terms stand to each other: `compare`. The name is put into `names`.
-pub fn compare(
-    alloc: Global,
-    store: &mut Store,
-    names: &mut Names,
-    at: Ref,
-    left: Ref,
-    right: Ref,
-) -> Result<Done, NoMemory>
-    requires place { IsRef store.old.state at × NamesBelow (length names.old) (tree_at store.old.state at) }
-    requires left { IsRef store.old.state left × NamesBelow (length names.old) (tree_at store.old.state left) }
-    requires right { IsRef store.old.state right × NamesBelow (length names.old) (tree_at store.old.state right) }
-    ensures done { IfOk result (λ done. Meets store.old.state store.new.state (compare_deed (by_numbers names.new) (tree_at store.old.state at) (order (by_numbers names.new) (tree_at store.old.state left) (tree_at store.old.state right))) done) }
-    ensures memory { OnErr result (store.new.state ≡ store.old.state) }
-    ensures front { IsFront names.old names.new }
-{
-    match store.view(at) {
-        View::Var(_) => unify_order(alloc, store, names, at, left, right),
-        View::Name(name) => {
-            if is_order(names.text(name)) {
-                unify_order(alloc, store, names, at, left, right)
-            } else {
-                Ok(Done::Raise(Raised::Domain(Domain::Order, at)))
-            }
-        }
-        _ => Ok(Done::Raise(Raised::Type(Expected::Atom, at))),
-    }
-}
-
-// Unifies a term with the name of how two terms stand to each other.
-fn unify_order(
-    alloc: Global,
-    store: &mut Store,
-    names: &mut Names,
-    at: Ref,
-    left: Ref,
-    right: Ref,
-) -> Result<Done, NoMemory>
-    requires place { IsRef store.old.state at }
-    requires left { IsRef store.old.state left × NamesBelow (length names.old) (tree_at store.old.state left) }
-    requires right { IsRef store.old.state right × NamesBelow (length names.old) (tree_at store.old.state right) }
-    ensures done { IfOk result (λ done. Meets store.old.state store.new.state (ordered (by_numbers names.new) (tree_at store.old.state at) (order (by_numbers names.new) (tree_at store.old.state left) (tree_at store.old.state right))) done) }
-    ensures memory { OnErr result (store.new.state ≡ store.old.state) }
-    ensures front { IsFront names.old names.new }
-{
-    let found = standard_order(alloc, store, names, left, right)?;
-    let name = intern(names, order_text(found))?;
-    unify_name(store, at, name)
-}
-
-fn order_text(found: Ordering) -> &'static [u8]
-    ensures { result.now ≡ order_text found }
-{
-    match found {
-        Ordering::Less => b"<",
-        Ordering::Equal => b"=",
-        Ordering::Greater => b">",
-    }
-}
-
-fn is_order(name: &[u8]) -> bool
-    ensures { result ≡ is_order name.now }
-{
-    name == b"<".as_slice() || name == b"=".as_slice() || name == b">".as_slice()
 }

@@ -1,6 +1,5 @@
 //! Output of characters (ISO/IEC 13211-1, 8.12).
-ghost use Rattle.std.specs.Prelude.{◌≡◌, [], ◌∷◌, ◌++◌, ◌<◌, length, IfOk, OnOk, OnErr};
-ghost use Rattle.pl_terms.specs.NameBounds.{NamesBelow};
+ghost use Rattle.std.specs.Prelude.{◌≡◌, [], ◌∷◌, ◌++◌, IfOk, OnOk, OnErr};
 ghost use Rattle.pl_unify.specs.State.{State, tree_at, IsRef};
 ghost use Rattle.builtin_model.specs.Naming.{by_numbers};
 ghost use Rattle.builtin_model.specs.Deeds.{yes, put_deed, is_character};
@@ -10,7 +9,7 @@ ghost use Rattle.pl_builtins.specs.Views.{put_done, name_bytes};
 
 use builtin_model::Expected;
 use pl_atoms::{Bytes, Names, NoMemory};
-use pl_builtin_ends::{Done, Raised};
+use pl_builtin_ends::{Done, Raised, text_of};
 use pl_unify::{Ref, Store, View};
 
 /// Writes a newline: `nl` (ISO/IEC 13211-1, 8.12.1).
@@ -26,14 +25,13 @@ pub fn new_line(text: &mut Bytes) -> Result<Done, NoMemory>
 /// Writes a character: `put_char` (ISO/IEC 13211-1, 8.12.3).
 pub fn put_char(store: &Store, names: &Names, at: Ref, text: &mut Bytes) -> Result<Done, NoMemory>
     requires place { IsRef store.now.state at }
-    requires named { NamesBelow (length names.now) (tree_at store.now.state at) }
     ensures done { IfOk result (λ done. Meets store.now.state store.now.state (put_deed (by_numbers names.now) (tree_at store.now.state at)) done) }
     ensures bytes { OnOk result (text.new ≡ text.old ++ put_text (by_numbers names.now) (tree_at store.now.state at)) }
     ensures memory { OnErr result (text.new ≡ text.old) }
 {
     match store.view(at) {
         View::Var(_) => Ok(Done::Raise(Raised::Instantiation)),
-        View::Name(name) => put_name(names.text(name), at, text),
+        View::Name(name) => put_name(text_of(names, name), at, text),
         _ => Ok(Done::Raise(Raised::Type(Expected::Character, at))),
     }
 }

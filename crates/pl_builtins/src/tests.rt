@@ -1,9 +1,8 @@
 //! Rows with successes and errors, by their numbers in the table of built-in procedures.
-ghost use Rattle.std.specs.Prelude.{◌≡◌, ◌<◌, length, All, IfOk};
-ghost use Rattle.pl_terms.specs.NameBounds.{NamesBelow};
-ghost use Rattle.pl_unify.specs.State.{tree_at, IsRef, Grows};
+ghost use Rattle.std.specs.Prelude.{All, IfOk};
+ghost use Rattle.pl_unify.specs.State.{IsRef, Grows};
 
-use crate::{Outcome, call};
+use crate::{Outcome, add_names, call};
 use pl_atoms::{Bytes, NameId, Names, NoMemory};
 use pl_builtin_terms::write;
 use pl_ops::OpTable;
@@ -21,21 +20,10 @@ struct Symbols {
 }
 
 // Puts the names into a new table.
-fn symbols_in(names: &mut Names, name: &[u8]) -> Result<Symbols, NoMemory>
-    ensures name { IfOk result (λ s. s.name.0 < length names.new) }
-    ensures nil { IfOk result (λ s. s.nil.0 < length names.new) }
-    ensures dot { IfOk result (λ s. s.dot.0 < length names.new) }
-{
+fn symbols_in(names: &mut Names, name: &[u8]) -> Result<Symbols, NoMemory> {
     let name = names.intern(name)?;
     let nil = names.intern(b"[]")?;
     let dot = names.intern(b".")?;
-    let count = names.len();
-    if name.0 >= count {
-        return Err(NoMemory);
-    }
-    if nil.0 >= count {
-        return Err(NoMemory);
-    }
     Ok(Symbols { name, nil, dot })
 }
 
@@ -46,6 +34,8 @@ enum Operand {
     Int(i64),
     // The atom of the row's name.
     Atom,
+    // An atom whose number is none of the table.
+    Unknown,
     // The empty list.
     Nil,
     // The term of the row's name with one new variable as both arguments.
@@ -56,80 +46,56 @@ enum Operand {
     List,
 }
 
-use Operand::{Atom, Int, List, Nil, Pair, Twice, Variable};
+use Operand::{Atom, Int, List, Nil, Pair, Twice, Unknown, Variable};
 
 // Puts an argument at a place.
-fn put(
-    store: &mut Store,
-    names: &Names,
-    symbols: Symbols,
-    operand: Operand,
-) -> Result<Ref, NoMemory>
-    requires name { symbols.name.0 < length names.now }
-    requires nil { symbols.nil.0 < length names.now }
-    requires dot { symbols.dot.0 < length names.now }
+fn put(store: &mut Store, symbols: Symbols, operand: Operand) -> Result<Ref, NoMemory>
     ensures grows { IfOk result (λ at. Grows store.old.state store.new.state) }
     ensures place { IfOk result (λ at. IsRef store.new.state at) }
-    ensures named { IfOk result (λ at. NamesBelow (length names.now) (tree_at store.new.state at)) }
 {
     match operand {
         Operand::Variable => store.fresh(),
         Operand::Int(value) => store.place_of_int(value),
         Operand::Atom => store.place_of_name(symbols.name),
+        Operand::Unknown => store.place_of_name(NameId(1000)),
         Operand::Nil => store.place_of_name(symbols.nil),
         Operand::Twice => {
             let x = store.fresh()?;
-            pair(store, names, symbols.name, x, x)
+            pair(store, symbols.name, x, x)
         }
         Operand::Pair(left, right) => {
             let left = store.place_of_int(left)?;
             let right = store.place_of_int(right)?;
-            pair(store, names, symbols.name, left, right)
+            pair(store, symbols.name, left, right)
         }
-        Operand::List => list(store, names, symbols),
+        Operand::List => list(store, symbols),
     }
 }
 
-fn list(store: &mut Store, names: &Names, symbols: Symbols) -> Result<Ref, NoMemory>
-    requires name { symbols.name.0 < length names.now }
-    requires nil { symbols.nil.0 < length names.now }
-    requires dot { symbols.dot.0 < length names.now }
+fn list(store: &mut Store, symbols: Symbols) -> Result<Ref, NoMemory>
     ensures grows { IfOk result (λ at. Grows store.old.state store.new.state) }
     ensures place { IfOk result (λ at. IsRef store.new.state at) }
-    ensures named { IfOk result (λ at. NamesBelow (length names.now) (tree_at store.new.state at)) }
 {
-    let rest = rest_of_list(store, names, symbols)?;
+    let rest = rest_of_list(store, symbols)?;
     let first = store.place_of_name(symbols.name)?;
-    pair(store, names, symbols.dot, first, rest)
+    pair(store, symbols.dot, first, rest)
 }
 
 // Puts the list of 7.
-fn rest_of_list(store: &mut Store, names: &Names, symbols: Symbols) -> Result<Ref, NoMemory>
-    requires nil { symbols.nil.0 < length names.now }
-    requires dot { symbols.dot.0 < length names.now }
+fn rest_of_list(store: &mut Store, symbols: Symbols) -> Result<Ref, NoMemory>
     ensures grows { IfOk result (λ at. Grows store.old.state store.new.state) }
     ensures place { IfOk result (λ at. IsRef store.new.state at) }
-    ensures named { IfOk result (λ at. NamesBelow (length names.now) (tree_at store.new.state at)) }
 {
     let seven = store.place_of_int(7)?;
     let end = store.place_of_name(symbols.nil)?;
-    pair(store, names, symbols.dot, seven, end)
+    pair(store, symbols.dot, seven, end)
 }
 
 // Puts a term with two arguments.
-fn pair(
-    store: &mut Store,
-    names: &Names,
-    name: NameId,
-    left: Ref,
-    right: Ref,
-) -> Result<Ref, NoMemory>
-    requires name { name.0 < length names.now }
-    requires left { IsRef store.old.state left × NamesBelow (length names.now) (tree_at store.old.state left) }
-    requires right { IsRef store.old.state right × NamesBelow (length names.now) (tree_at store.old.state right) }
+fn pair(store: &mut Store, name: NameId, left: Ref, right: Ref) -> Result<Ref, NoMemory>
+    requires places { IsRef store.old.state left × IsRef store.old.state right }
     ensures grows { IfOk result (λ at. Grows store.old.state store.new.state) }
     ensures place { IfOk result (λ at. IsRef store.new.state at) }
-    ensures named { IfOk result (λ at. NamesBelow (length names.now) (tree_at store.new.state at)) }
 {
     store.compound(name, &[left, right])
 }
@@ -145,7 +111,6 @@ fn answer(
     shown: Ref,
 ) -> Result<Bytes, NoMemory>
     requires places { All (λ r. IsRef store.old.state r) args.now }
-    requires named { All (λ r. NamesBelow (length names.old) (tree_at store.old.state r)) args.now }
     requires shown { IsRef store.old.state shown }
 {
     let table = OpTable::standard(alloc)?;
@@ -175,44 +140,41 @@ enum Args {
 use Args::{None as Alone, One, Three, Two};
 
 // What a predicate answers in a new store.
-fn called(alloc: Global, row: usize, name: &[u8], args: Args) -> Result<Bytes, NoMemory> {
-    let mut names = Names::new(alloc);
-    let known = symbols_in(&mut names, name)?;
+fn called(
+    alloc: Global,
+    names: &mut Names,
+    row: usize,
+    name: &[u8],
+    args: Args,
+) -> Result<Bytes, NoMemory> {
+    let known = symbols_in(names, name)?;
     let mut store = Store::new(alloc);
     let name = known.name;
     match args {
         Args::None => {
-            let shown = put(&mut store, &names, known, Operand::Atom)?;
-            answer(alloc, &mut store, &mut names, name, row, &[], shown)
+            let shown = put(&mut store, known, Operand::Atom)?;
+            answer(alloc, &mut store, names, name, row, &[], shown)
         }
         Args::One(first) => {
-            let first = put(&mut store, &names, known, first)?;
+            let first = put(&mut store, known, first)?;
             let shown = store.compound(name, &[first])?;
-            answer(alloc, &mut store, &mut names, name, row, &[first], shown)
+            answer(alloc, &mut store, names, name, row, &[first], shown)
         }
         Args::Two(first, second) => {
-            let first = put(&mut store, &names, known, first)?;
-            let second = put(&mut store, &names, known, second)?;
+            let first = put(&mut store, known, first)?;
+            let second = put(&mut store, known, second)?;
             let shown = store.compound(name, &[first, second])?;
-            answer(
-                alloc,
-                &mut store,
-                &mut names,
-                name,
-                row,
-                &[first, second],
-                shown,
-            )
+            answer(alloc, &mut store, names, name, row, &[first, second], shown)
         }
         Args::Three(first, second, third) => {
-            let first = put(&mut store, &names, known, first)?;
-            let second = put(&mut store, &names, known, second)?;
-            let third = put(&mut store, &names, known, third)?;
+            let first = put(&mut store, known, first)?;
+            let second = put(&mut store, known, second)?;
+            let third = put(&mut store, known, third)?;
             let shown = store.compound(name, &[first, second, third])?;
             answer(
                 alloc,
                 &mut store,
-                &mut names,
+                names,
                 name,
                 row,
                 &[first, second, third],
@@ -224,7 +186,7 @@ fn called(alloc: Global, row: usize, name: &[u8], args: Args) -> Result<Bytes, N
 
 type Called = (usize, &'static [u8], Args, &'static str);
 
-const ROWS: [Called; 72] = [
+const ROWS: [Called; 77] = [
     (0, b"a", Alone, "No"),
     (5, b"a", Two(Int(1), Int(2)), "a(1,2)"),
     (6, b"a", Two(Variable, Atom), "a(a,a)"),
@@ -253,6 +215,12 @@ const ROWS: [Called; 72] = [
         b"a",
         Two(Variable, Variable),
         "error(instantiation_error,(=..)/2)",
+    ),
+    (
+        7,
+        b"a",
+        Two(Variable, Unknown),
+        "error(type_error(list,''),(=..)/2)",
     ),
     (8, b"a", Two(Int(1), Int(2)), "No"),
     (
@@ -332,6 +300,13 @@ const ROWS: [Called; 72] = [
         Three(Atom, Atom, Atom),
         "error(domain_error(order,f),compare/3)",
     ),
+    (36, b"f", Three(Variable, Unknown, Atom), "f(<,'',f)"),
+    (
+        36,
+        b"f",
+        Three(Unknown, Atom, Atom),
+        "error(domain_error(order,''),compare/3)",
+    ),
     (37, b"a", One(Twice), "a(a(_G0,_G0))"),
     (38, b"a", Two(Twice, Variable), "a(a(_G0,_G0),a(_G2,_G2))"),
     (39, b"a", Alone, "No"),
@@ -387,6 +362,12 @@ const ROWS: [Called; 72] = [
         Two(Variable, Atom),
         "error(type_error(evaluable,foo/0),(is)/2)",
     ),
+    (
+        48,
+        b"foo",
+        Two(Variable, Unknown),
+        "error(type_error(evaluable,''/0),(is)/2)",
+    ),
     (49, b"a", Alone, "\na"),
     (50, b"a", One(Variable), "No"),
     (51, b"a", One(Int(1)), "a(1)"),
@@ -403,6 +384,12 @@ const ROWS: [Called; 72] = [
         One(Atom),
         "error(type_error(character,'It'),put_char/1)",
     ),
+    (
+        53,
+        b"a",
+        One(Unknown),
+        "error(type_error(character,''),put_char/1)",
+    ),
     (55, b"a", Two(Twice, Variable), "a(a(_G0,_G0),[_G0])"),
     (57, b"a", Alone, "a"),
     (58, b"a", Two(Twice, Variable), "a(a(_G0,_G0),a(_G0,_G0))"),
@@ -417,8 +404,23 @@ const ROWS: [Called; 72] = [
 #[test]
 fn rows_by_number(rt: HostRuntime) -> Result<(), Fail> {
     for (row, name, args, want) in &ROWS {
-        let text = called(rt.alloc(), *row, name, *args)?;
+        let mut names = Names::new(rt.alloc());
+        let text = called(rt.alloc(), &mut names, *row, name, *args)?;
         assert_eq!(rt; text.as_slice(), want.as_bytes(), "at {row}");
+    }
+    Ok(())
+}
+
+#[test]
+fn no_name_is_added(rt: HostRuntime) -> Result<(), Fail> {
+    for (row, name, args, want) in &ROWS {
+        let mut names = Names::new(rt.alloc());
+        add_names(&mut names)?;
+        names.intern(name)?;
+        let count = names.len();
+        let text = called(rt.alloc(), &mut names, *row, name, *args)?;
+        assert_eq!(rt; text.as_slice(), want.as_bytes(), "at {row}");
+        assert_eq!(rt; names.len(), count, "at {row}");
     }
     Ok(())
 }

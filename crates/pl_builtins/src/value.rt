@@ -1,6 +1,5 @@
 //! Values of expressions: `is` and the comparisons of values (ISO/IEC 13211-1, 8.6 and 8.7).
-ghost use Rattle.std.specs.Prelude.{◌≡◌, ◌<◌, length, IfOk, OnErr};
-ghost use Rattle.pl_terms.specs.NameBounds.{NamesBelow};
+ghost use Rattle.std.specs.Prelude.{◌≡◌, IfOk, OnErr};
 ghost use Rattle.pl_unify.specs.State.{tree_at, IsRef};
 ghost use Rattle.builtin_model.specs.Naming.{by_numbers};
 ghost use Rattle.builtin_model.specs.Values.{value};
@@ -27,7 +26,6 @@ pub fn is(
 ) -> Result<Done, NoMemory>
     requires left { IsRef store.old.state left }
     requires right { IsRef store.old.state right }
-    requires named { NamesBelow (length names.now) (tree_at store.old.state right) }
     ensures done { IfOk result (λ done. Meets store.old.state store.new.state (assigned (tree_at store.old.state left) (value (by_numbers names.now) (tree_at store.old.state right))) done) }
     ensures memory { OnErr result (store.new.state ≡ store.old.state) }
 {
@@ -46,8 +44,8 @@ pub fn compare_values(
     left: Ref,
     right: Ref,
 ) -> Result<Done, NoMemory>
-    requires left { IsRef store.now.state left × NamesBelow (length names.now) (tree_at store.now.state left) }
-    requires right { IsRef store.now.state right × NamesBelow (length names.now) (tree_at store.now.state right) }
+    requires left { IsRef store.now.state left }
+    requires right { IsRef store.now.state right }
     ensures { IfOk result (λ done. Meets store.now.state store.now.state (related relation (value (by_numbers names.now) (tree_at store.now.state left)) (value (by_numbers names.now) (tree_at store.now.state right))) done) }
 {
     match evaluate(alloc, store, names, left) {

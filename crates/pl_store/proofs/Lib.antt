@@ -3,3 +3,5 @@ mod TagLaws
 mod AddLaws
 mod IndexLaws
 mod ProgramLaws
+pub mod FactLaws
+pub mod WalkLaws

@@ -16,8 +16,8 @@ use Rattle.pl_store.specs.declared.index.Class.TheVariants as C
 use Rattle.pl_store.specs.declared.index.Tag.{Tag}
 use Rattle.pl_store.specs.declared.key.Key.{Key}
 use Rattle.pl_store.specs.declared.key.Key.TheVariants as K
-use Rattle.pl_store.specs.declared.program.Clause.{Clause}
-use Rattle.pl_store.specs.declared.program.RowKey.{RowKey}
+use Rattle.pl_store.specs.declared.tables.Clause.{Clause}
+use Rattle.pl_store.specs.declared.tables.RowKey.{RowKey}
 use Rattle.pl_store.proofs.PlaceLaws.{next_place-map, next_place-same}
 
 or_false : (b : Bool) → (b || false) ≡ b
@@ -30,7 +30,7 @@ and_true false = refl
 
 -- ---- a key and a class
 
-none_asked : (key : Key) → key_class key ≡ None → (head : Tree ℕ) → fits (key_view key) head ≡ true
+none_asked : (key : Key) → key_class key ≡ None → (head : Tree ℕ) → fits nat_eq (key_view key) head ≡ true
 none_asked K.Any e (var n) = refl
 none_asked K.Any e (int z) = refl
 none_asked K.Any e (atom s) = refl
@@ -44,29 +44,29 @@ none_asked (K.Comp s k) e head = absurd (none-some _ (sym e))
 abbrev fits_class : Class → Class → Bool
 fits_class c d = same_class c d || same_class C.Open d
 
-int-argument : (z : _) (t : Tree ℕ) → fits_class (C.Int z) (argument_class t) ≡ argument_fits (key_view (K.Int z)) t
+int-argument : (z : _) (t : Tree ℕ) → fits_class (C.Int z) (argument_class t) ≡ argument_fits nat_eq (key_view (K.Int z)) t
 int-argument z (var n) = refl
 int-argument z (int y) = or_false (int_eq z y)
 int-argument z (atom s) = refl
 int-argument z (comp g ts) = refl
 
-name-argument : (s : _) (t : Tree ℕ) → fits_class (C.Name s.0) (argument_class t) ≡ argument_fits (key_view (K.Name s)) t
+name-argument : (s : _) (t : Tree ℕ) → fits_class (C.Name s.0) (argument_class t) ≡ argument_fits nat_eq (key_view (K.Name s)) t
 name-argument s (var n) = refl
 name-argument s (int y) = refl
 name-argument s (atom r) = or_false (nat_eq s.0 r)
 name-argument s (comp g ts) = refl
 
-comp-argument : (s : _) (k : ℕ) (t : Tree ℕ) → fits_class (C.Comp s.0 k) (argument_class t) ≡ argument_fits (key_view (K.Comp s k)) t
+comp-argument : (s : _) (k : ℕ) (t : Tree ℕ) → fits_class (C.Comp s.0 k) (argument_class t) ≡ argument_fits nat_eq (key_view (K.Comp s k)) t
 comp-argument s k (var n) = refl
 comp-argument s k (int y) = refl
 comp-argument s k (atom r) = refl
 comp-argument s k (comp g ts) = or_false _
 
-asked : (key : Key) (c : Class) → key_class key ≡ Some c → (head : Tree ℕ) → fits_class c (head_class head) ≡ fits (key_view key) head
+asked : (key : Key) (c : Class) → key_class key ≡ Some c → (head : Tree ℕ) → fits_class c (head_class head) ≡ fits nat_eq (key_view key) head
 asked K.Any c e head = absurd (none-some c e)
 asked (K.Int z) c e head = ap (λ d. fits_class d (head_class head)) (sym (same_Some (C.Int z) c e)) ∙ by head
   where
-    by : (h : Tree ℕ) → fits_class (C.Int z) (head_class h) ≡ fits (key_view (K.Int z)) h
+    by : (h : Tree ℕ) → fits_class (C.Int z) (head_class h) ≡ fits nat_eq (key_view (K.Int z)) h
     by (var n) = refl
     by (int y) = refl
     by (atom r) = refl
@@ -74,7 +74,7 @@ asked (K.Int z) c e head = ap (λ d. fits_class d (head_class head)) (sym (same_
     by (comp g (cons t ts)) = int-argument z t
 asked (K.Name s) c e head = ap (λ d. fits_class d (head_class head)) (sym (same_Some (C.Name s.0) c e)) ∙ by head
   where
-    by : (h : Tree ℕ) → fits_class (C.Name s.0) (head_class h) ≡ fits (key_view (K.Name s)) h
+    by : (h : Tree ℕ) → fits_class (C.Name s.0) (head_class h) ≡ fits nat_eq (key_view (K.Name s)) h
     by (var n) = refl
     by (int y) = refl
     by (atom r) = refl
@@ -82,7 +82,7 @@ asked (K.Name s) c e head = ap (λ d. fits_class d (head_class head)) (sym (same
     by (comp g (cons t ts)) = name-argument s t
 asked (K.Comp s k) c e head = ap (λ d. fits_class d (head_class head)) (sym (same_Some (C.Comp s.0 k) c e)) ∙ by head
   where
-    by : (h : Tree ℕ) → fits_class (C.Comp s.0 k) (head_class h) ≡ fits (key_view (K.Comp s k)) h
+    by : (h : Tree ℕ) → fits_class (C.Comp s.0 k) (head_class h) ≡ fits nat_eq (key_view (K.Comp s k)) h
     by (var n) = refl
     by (int y) = refl
     by (atom r) = refl

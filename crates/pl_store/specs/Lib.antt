@@ -4,3 +4,5 @@ pub mod Linked
 pub mod Views
 pub mod Rules
 pub mod Runs
+pub mod Facts
+pub mod Walks

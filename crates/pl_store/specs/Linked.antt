@@ -21,7 +21,7 @@ pub record Procedure : Type 0 where
 -- a clause, with the number of its procedure
 pub record Entered : Type 0 where
   pub procedure : ℕ
-  pub clause : Clause
+  pub clause : Clause ℕ
 
 -- a procedure's name and number of arguments, with the number of the procedure that is visible under it from a module
 pub record Row : Type 0 where
@@ -72,15 +72,15 @@ abbrev pub clause_at : Linked → ℕ → Entered
 clause_at l c = slice_index_or l.clauses c no_clause
 
 -- a key as what is known of a goal's first argument
-abbrev pub key_view : CodeKey → Key
+abbrev pub key_view : CodeKey → Key ℕ
 key_view K.Any = any
 key_view (K.Int z) = integer z
 key_view (K.Name s) = name s.0
 key_view (K.Comp s k) = compound s.0 k
 
 -- a clause of the procedure whose first argument may have a unifier with an argument of this key
-abbrev pub may_match : ℕ → Key → Entered → Bool
-may_match p key c = nat_eq p c.procedure && fits key c.clause.head
+abbrev pub may_match : ℕ → Key ℕ → Entered → Bool
+may_match p key c = nat_eq p c.procedure && fits nat_eq key c.clause.head
 
 -- ---- how a program grows
 
@@ -121,14 +121,14 @@ procedure_code =
     code_by (ℕ × (Indicator ℕ × Option (List Bool))) (coded× coded_ℕ (coded× indicator_code (coded_option (coded_list coded_bool))))
     (λ p. (p.home, (p.indicator, p.modes))) (λ p. record { home = p.0; indicator = p.1.0; modes = p.1.1 }) (λ _. refl)
 
-abbrev pub clause_code : Coded Clause
+abbrev pub clause_code : Coded (Clause ℕ)
 clause_code =
     code_by (ℕ × (Tree ℕ × Tree ℕ)) (coded× coded_ℕ (coded× tree_code tree_code))
     (λ c. (c.width, (c.head, c.body))) (λ p. record { width = p.0; head = p.1.0; body = p.1.1 }) (λ _. refl)
 
 abbrev pub entered_code : Coded Entered
 entered_code =
-    code_by (ℕ × Clause) (coded× coded_ℕ clause_code) (λ c. (c.procedure, c.clause)) (λ p. record { procedure = p.0; clause = p.1 }) (λ _. refl)
+    code_by (ℕ × Clause ℕ) (coded× coded_ℕ clause_code) (λ c. (c.procedure, c.clause)) (λ p. record { procedure = p.0; clause = p.1 }) (λ _. refl)
 
 abbrev pub row_code : Coded Row
 row_code =

@@ -1,5 +1,5 @@
 -- What a linked program asks of what is added to it.
-use Rattle.std.specs.Prelude.{◌≡◌, ℕ, List, [], ◌++◌, length, Bool, true, false, ◌||◌, Option, None, Some}
+use Rattle.std.specs.Prelude.{◌≡◌, ◌<◌, ◌^◌, ℕ, List, [], ◌++◌, length, Bool, true, false, ◌||◌, Option, None, Some}
 use Rattle.std.specs.List.{list_any}
 use Rattle.pl_terms.specs.Trees.{Tree, var, int, atom, comp, count}
 use Rattle.pl_terms.specs.Order.{texts_of}
@@ -32,9 +32,10 @@ indicator_of (atom s) = Some (record { name = s; arity = 0 })
 indicator_of (comp s ts) = Some (record { name = s; arity = count ts })
 
 -- a clause of a procedure: names are the program's, the body is converted, and the variables are 0, 1, 2 and so on
-pub record IsClauseOf (l : Linked) (p : ℕ) (c : Clause) : Type 0 where
+pub record IsClauseOf (l : Linked) (p : ℕ) (c : Clause ℕ) : Type 0 where
   pub head : indicator_of c.head ≡ Some (procedure_at l p).indicator
   pub head_names : NamesBelow (length l.names) c.head
   pub body_names : NamesBelow (length l.names) c.body
   pub converted : is_converted (texts_of l.names c.body) ≡ true
   pub numbered : first_after [] (occurrences c.head ++ occurrences c.body) ≡ from_to 0 c.width
+  pub width : c.width < 2 ^ 63

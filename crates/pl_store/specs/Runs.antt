@@ -9,7 +9,7 @@ use Rattle.pl_store.specs.Linked.{Linked, visible_in, is_procedure, procedure_at
 abbrev pub number_of : Linked → ℕ → Indicator ℕ → Option ℕ
 number_of l d i = position (is_procedure d i) l.procedures
 
-abbrev pub clauses_from : Linked → Option ℕ → List Clause
+abbrev pub clauses_from : Linked → Option ℕ → List (Clause ℕ)
 clauses_from l None = []
 clauses_from l (Some p) = map (λ c. c.clause) (filter (λ c. nat_eq p c.procedure) l.clauses)
 
@@ -17,7 +17,7 @@ abbrev pub modes_from : Linked → Option ℕ → Option (List Bool)
 modes_from l None = None
 modes_from l (Some p) = (procedure_at l p).modes
 
-abbrev pub program_of : Linked → Program
+abbrev pub program_of : Linked → Program ℕ
 program_of l = record {
   exists = λ m. is_system l.names m || is_module l m;
   visible = λ m i. option_map (λ p. (procedure_at l p).home) (visible_in l.rows m i);

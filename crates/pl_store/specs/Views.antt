@@ -8,9 +8,9 @@ use Rattle.pl_store.specs.declared.index.Class.TheVariants as C
 use Rattle.pl_store.specs.declared.index.Tag.{Tag}
 use Rattle.pl_store.specs.declared.key.Key.{Key}
 use Rattle.pl_store.specs.declared.key.Key.TheVariants as K
-use Rattle.pl_store.specs.declared.program.Procedure.{Procedure}
-use Rattle.pl_store.specs.declared.program.Clause.{Clause}
-use Rattle.pl_store.specs.declared.program.RowKey.{RowKey}
+use Rattle.pl_store.specs.declared.tables.Procedure.{Procedure}
+use Rattle.pl_store.specs.declared.tables.Clause.{Clause}
+use Rattle.pl_store.specs.declared.tables.RowKey.{RowKey}
 
 abbrev pub procedure_view : Procedure → Defined
 procedure_view p = record { home = p.home.0; indicator = ind_view p.ind; modes = p.modes }

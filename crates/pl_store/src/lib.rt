@@ -3,8 +3,11 @@
 
 mod index;
 mod key;
+pub mod laws;
 mod list;
 mod program;
+mod tables;
 
 pub use key::{ClauseId, Key, ProcId};
 pub use program::Program;
+pub use tables::Tables;

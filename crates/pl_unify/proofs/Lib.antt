@@ -19,3 +19,4 @@ pub mod CodeMaking
 pub mod Grounds
 pub mod Fields
 pub mod Compounds
+pub mod Arguments

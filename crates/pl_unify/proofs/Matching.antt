@@ -39,7 +39,7 @@ use Rattle.pl_unify.proofs.Building.{code_tree-at, same_span}
 abbrev pub Lower : ℕ → Word → Type 0
 Lower n w = (m : ℕ) → w ≡ Var m → m < n
 
-apart : (n m : ℕ) → m < n → occurs n (var m) ≡ true → ⊥
+apart : (n m : ℕ) → m < n → occurs {N = ℕ} n (var m) ≡ true → ⊥
 apart n m lt o = let e : n ≡ m = eqb-true n m o in absurd (omega arith)
 
 shape_left : (s : State) (n : ℕ) (w : Word) → Lower n w → occurs n (shape s w) ≡ false → Solved ((var n, shape s w) ∷ []) (Some ((n, shape s w) ∷ []))

@@ -136,7 +136,7 @@ module _ (s : State) (start work rest : List (ℕ × ℕ)) (p q : ℕ) (l r : Wo
   looked-vars : (n m : ℕ) → l ≡ Var n → r ≡ Var m → (x : Option (List (ℕ × Tree ℕ))) → Solved ((var n, var m) ∷ equations s rest) x → Solved (equations s start) x
   looked-vars n m e f x h = looked-start x (subst (λ w. Solved ((shape s w, shape s r) ∷ equations s rest) x) (sym e) (subst (λ w. Solved ((var n, shape s w) ∷ equations s rest) x) (sym f) h))
 
-  apart : (n m : ℕ) → n ≢ m → occurs n (var m) ≡ true → ⊥
+  apart : (n m : ℕ) → n ≢ m → occurs {N = ℕ} n (var m) ≡ true → ⊥
   apart n m ne o = ne (eqb-true n m o)
 
   -- two variables, the left one with the higher number

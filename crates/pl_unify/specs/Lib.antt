@@ -10,3 +10,4 @@ pub mod Match
 pub mod Coding
 pub mod Notes
 pub mod Making
+pub mod Arguments

@@ -9,6 +9,7 @@ ghost use Rattle.pl_unify.specs.Shape.{IsVariable, number_of};
 
 mod build;
 mod compound;
+mod goal;
 mod head;
 mod load;
 mod notes;

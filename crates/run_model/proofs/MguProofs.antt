@@ -185,7 +185,7 @@ abbrev Within : ℕ → List (Tree ℕ × Tree ℕ) → Type 0
 Within k es = (j : ℕ) → occurs_in j es ≡ true → j < k
 
 -- what a move keeps, and what it takes away
-abbrev IsMove : List (Tree ℕ × Tree ℕ) → Move → Type 0
+abbrev IsMove : List (Tree ℕ × Tree ℕ) → Move ℕ → Type 0
 IsMove es (stop a) = Solved es a
 IsMove es (turn es') =
     ((a : Option (List (ℕ × Tree ℕ))) → Solved es' a → Solved es a) × ((j : ℕ) → occurs_in j es' ≡ true → occurs_in j es ≡ true) × (weight es' < weight es)
@@ -268,7 +268,7 @@ module _ (es : List (Tree ℕ × Tree ℕ)) where
         omega (arith, weight-pairs ts us es),
       )
 
-moves : (es : List (Tree ℕ × Tree ℕ)) → IsMove es (move es)
+moves : (es : List (Tree ℕ × Tree ℕ)) → IsMove es (move nat_eq es)
 moves [] = solved
 moves ((var n, var m) ∷ es) = two_vars es n m
 moves ((var n, int z) ∷ es) = var_other es n (int z) tt
@@ -289,21 +289,21 @@ moves ((comp f ts, comp g us) ∷ es) = two_comps es f g ts us
 
 -- what a pass gives is the answer, if what goes on after a replacement is
 pass-solved : (k v : ℕ) (next : List (Tree ℕ × Tree ℕ) → Option (List (ℕ × Tree ℕ))) → ((es : List (Tree ℕ × Tree ℕ)) → Within k es → live k es < v → Solved es (next es))
-    → (w : ℕ) (es : List (Tree ℕ × Tree ℕ)) → Within k es → live k es ≤ v → weight es < w → Solved es (pass w next es)
+    → (w : ℕ) (es : List (Tree ℕ × Tree ℕ)) → Within k es → live k es ≤ v → weight es < w → Solved es (pass nat_eq w next es)
 pass-solved k v next fewer zero es within few light = absurd (omega arith)
-pass-solved k v next fewer (suc w) es within few light = step (move es) (moves es) (pass-solved k v next fewer w)
+pass-solved k v next fewer (suc w) es within few light = step (move nat_eq es) (moves es) (pass-solved k v next fewer w)
   where
-    step : (m : Move) → IsMove es m → ((es' : List (Tree ℕ × Tree ℕ)) → Within k es' → live k es' ≤ v → weight es' < w → Solved es' (pass w next es')) → Solved es (after_move (pass w next) next m)
+    step : (m : Move ℕ) → IsMove es m → ((es' : List (Tree ℕ × Tree ℕ)) → Within k es' → live k es' ≤ v → weight es' < w → Solved es' (pass nat_eq w next es')) → Solved es (after_move (pass nat_eq w next) next m)
     step (stop a) h on = h
     step (turn es') h on =
-        h.0 (pass w next es') (on es' (λ j o. within j (h.1 j o)) (omega (arith, tally-le k (λ j. occurs_in j es') (λ j. occurs_in j es) h.1)) (omega (arith, h.2)))
+        h.0 (pass nat_eq w next es') (on es' (λ j o. within j (h.1 j o)) (omega (arith, tally-le k (λ j. occurs_in j es') (λ j. occurs_in j es) h.1)) (omega (arith, h.2)))
     step (bind n t es') h on =
         let smaller : live k (replaced n t es') < live k es = tally-less k (λ j. occurs_in j (replaced n t es')) (λ j. occurs_in j es) n (within n h.2) (replaced-gone n t es' h.1) h.2 h.3 in
         h.0 (next (replaced n t es')) (fewer (replaced n t es') (λ j o. within j (h.3 j o)) (omega arith))
 
-solve-solved : (k v : ℕ) (es : List (Tree ℕ × Tree ℕ)) → Within k es → live k es ≤ v → Solved es (solve v es)
+solve-solved : (k v : ℕ) (es : List (Tree ℕ × Tree ℕ)) → Within k es → live k es ≤ v → Solved es (solve nat_eq v es)
 solve-solved k zero es within few = pass-solved k zero (λ _. None) (λ es' a b. absurd (omega arith)) (suc (weight es)) es within few (omega arith)
-solve-solved k (suc v) es within few = pass-solved k (suc v) (solve v) (λ es' a b. solve-solved k v es' a (omega arith)) (suc (weight es)) es within few (omega arith)
+solve-solved k (suc v) es within few = pass-solved k (suc v) (solve nat_eq v) (λ es' a b. solve-solved k v es' a (omega arith)) (suc (weight es)) es within few (omega arith)
 
 mutual
   occurs-top : (j : ℕ) (t : Tree ℕ) → occurs j t ≡ true → j < top t

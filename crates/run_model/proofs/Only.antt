@@ -13,9 +13,9 @@ use Rattle.run_model.proofs.MguProofs.{Solved-mgu}
 use Rattle.run_model.specs.Mgu.Move.{stop, turn, bind}
 
 data Run : List (Tree ℕ × Tree ℕ) → Option (List (ℕ × Tree ℕ)) → Type 0 where
-  ends : {es : List (Tree ℕ × Tree ℕ)} {a : Option (List (ℕ × Tree ℕ))} → move es ≡ stop a → Run es a
-  goes : {es es' : List (Tree ℕ × Tree ℕ)} {a : Option (List (ℕ × Tree ℕ))} → move es ≡ turn es' → Run es' a → Run es a
-  binds : {es es' : List (Tree ℕ × Tree ℕ)} {n : ℕ} {t : Tree ℕ} {a : Option (List (ℕ × Tree ℕ))} → move es ≡ bind n t es' → Run (replaced n t es') a → Run es (binding n t a)
+  ends : {es : List (Tree ℕ × Tree ℕ)} {a : Option (List (ℕ × Tree ℕ))} → move nat_eq es ≡ stop a → Run es a
+  goes : {es es' : List (Tree ℕ × Tree ℕ)} {a : Option (List (ℕ × Tree ℕ))} → move nat_eq es ≡ turn es' → Run es' a → Run es a
+  binds : {es es' : List (Tree ℕ × Tree ℕ)} {n : ℕ} {t : Tree ℕ} {a : Option (List (ℕ × Tree ℕ))} → move nat_eq es ≡ bind n t es' → Run (replaced n t es') a → Run es (binding n t a)
 
 Run-only : {es : List (Tree ℕ × Tree ℕ)} {a b : Option (List (ℕ × Tree ℕ))} → Run es a → Run es b → a ≡ b
 Run-only (ends e) (ends f) = cc
@@ -64,13 +64,13 @@ mutual
   Run-pairs nil es a r = r
   Run-pairs (cons t ts) es a r = Run-same t (pairs ts ts es) a (Run-pairs ts es a r)
 
-left_move : (n : ℕ) (t : Tree ℕ) (es : List (Tree ℕ × Tree ℕ)) → IsOther t → move ((var n, t) ∷ es) ≡ at_variable n t es
+left_move : (n : ℕ) (t : Tree ℕ) (es : List (Tree ℕ × Tree ℕ)) → IsOther t → move nat_eq ((var n, t) ∷ es) ≡ at_variable n t es
 left_move n (var m) es other = absurd other
 left_move n (int z) es other = refl
 left_move n (atom a) es other = refl
 left_move n (comp f ts) es other = refl
 
-right_move : (n : ℕ) (t : Tree ℕ) (es : List (Tree ℕ × Tree ℕ)) → IsOther t → move ((t, var n) ∷ es) ≡ at_variable n t es
+right_move : (n : ℕ) (t : Tree ℕ) (es : List (Tree ℕ × Tree ℕ)) → IsOther t → move nat_eq ((t, var n) ∷ es) ≡ at_variable n t es
 right_move n (var m) es other = absurd other
 right_move n (int z) es other = refl
 right_move n (atom a) es other = refl
@@ -82,7 +82,7 @@ absent_move n t es o = rw o
 inside_move : (n : ℕ) (t : Tree ℕ) (es : List (Tree ℕ × Tree ℕ)) → occurs n t ≡ true → at_variable n t es ≡ stop None
 inside_move n t es o = rw o
 
-clash_move : {t u : Tree ℕ} (es : List (Tree ℕ × Tree ℕ)) → IsClash t u → move ((t, u) ∷ es) ≡ stop None
+clash_move : {t u : Tree ℕ} (es : List (Tree ℕ × Tree ℕ)) → IsClash t u → move nat_eq ((t, u) ∷ es) ≡ stop None
 clash_move es (ints {x} {y} ne) = let e : int_eq x y ≡ false = int_eq-ne x y ne in rw e
 clash_move es (atoms {a} {b} ne) = let e : nat_eq a b ≡ false = search (arith, ne) in rw e
 clash_move es (names {f} {g} {ts} {us} ne) = let e : nat_eq f g ≡ false = search (arith, ne) in rw e

@@ -63,7 +63,7 @@ impl Store {
     }
 
     // Puts a word at a place of its own, for which there is room.
-    fn put_word(&mut self, word: Word)
+    pub(super) fn put_word(&mut self, word: Word)
         requires within { WordIn (length self.old.state.cells) self.old.state.next word }
         requires room { 1 ≤ self.old.cell_room }
         ensures grows { Grows self.old.state self.new.state }

@@ -43,7 +43,7 @@ impl Store {
     }
 
     // Solves the equation of a word and a place of the code.
-    fn match_word(
+    pub(super) fn match_word(
         &mut self,
         word: Word,
         code: &Code,

@@ -1,4 +1,4 @@
-use Rattle.goal_frames.proofs.FrameLaws.{items_move}
+use Rattle.goal_frames.proofs.StoreLaws.{items_move}
 use Rattle.goal_frames.proofs.laws.items_move.Goals as goal
 
 pub returns : goal.returns

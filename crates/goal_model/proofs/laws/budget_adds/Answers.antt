@@ -3,4 +3,4 @@ use Rattle.goal_model.specs.Table.{prolog}
 use Rattle.goal_model.proofs.laws.budget_adds.Goals as goal
 
 pub returns : goal.returns
-returns c = λ n p. found-longer (prolog n p)
+returns g c = λ n same p. found-longer (prolog n same p)

@@ -13,3 +13,6 @@ returns-clause-defined c = λ names table. (defined_end names c.args.entries.now
 
 pub returns-clause-causes : goal.returns-clause-causes
 returns-clause-causes c = λ names table. (defined_end names c.args.entries.now c.loop-entry.entry-index c.loop-entry.defined.procedures.keys c.args.causes.now.items c.loop-entry.causes.items c.loop-entry-test.false (c.loop-entry.invariant names table)).causes_are
+
+pub returns-clause-named : goal.returns-clause-named
+returns-clause-named c = λ names table. (defined_end names c.args.entries.now c.loop-entry.entry-index c.loop-entry.defined.procedures.keys c.args.causes.now.items c.loop-entry.causes.items c.loop-entry-test.false (c.loop-entry.invariant names table)).named

@@ -6,7 +6,7 @@ use Rattle.pl_arith.proofs.expression.evaluate.Given as goal
 
 abbrev pub invariant-loop-task : goal.invariant-loop-task
 invariant-loop-task l = record {
-  ok : TasksOk l.store.state (length l.names) (reverse l.work.items);
+  ok : TasksOk l.store.state (reverse l.work.items);
   enough : LeavesOne (reverse l.work.items) (length (reverse l.numbers.items));
   same : run l.store.state l.names (reverse l.work.items) (reverse l.numbers.items) ≡ pushed (value l.names (tree_at l.store.state l.fn.at)) [];
 }

@@ -7,11 +7,11 @@ use Rattle.pl_arith.proofs.expression.open.Goals.{In-One, In-Two}
 
 one : (c : In-One) → OneArgument c.args.names.now (tree_at c.args.store.now.state c.args.at) c.in-Comp.name.0 c.in-One.op
 one c = one_argument c.args.names.now _ c.in-Comp.name c.in-Comp.arity c.in-One.op (sym c.in-Comp.is ∙ c.view.ensures)
-    (ap Some (sym c.in-One.is) ∙ (sym c.in-Some.is ∙ (c.find_operation.ensures ∙ ap (λ t. operation_of t c.in-Comp.arity) c.text.ensures)))
+    (ap Some (sym c.in-One.is) ∙ (sym c.in-Some.is ∙ (c.find_operation.ensures ∙ ap (λ t. operation_of t c.in-Comp.arity) c.text_of.ensures)))
 
 two : (c : In-Two) → TwoArguments c.args.names.now (tree_at c.args.store.now.state c.args.at) c.in-Comp.name.0 c.in-Two.op
 two c = two_arguments c.args.names.now _ c.in-Comp.name c.in-Comp.arity c.in-Two.op (sym c.in-Comp.is ∙ c.view.ensures)
-    (ap Some (sym c.in-Two.is) ∙ (sym c.in-Some.is ∙ (c.find_operation.ensures ∙ ap (λ t. operation_of t c.in-Comp.arity) c.text.ensures)))
+    (ap Some (sym c.in-Two.is) ∙ (sym c.in-Some.is ∙ (c.find_operation.ensures ∙ ap (λ t. operation_of t c.in-Comp.arity) c.text_of.ensures)))
 
 pub arg-requires-clause-argument : goal.arg-requires-clause-argument
 arg-requires-clause-argument c = one_low _ _ _ _ (one (goal.at.arg-requires-clause-argument c).In-One)
@@ -36,4 +36,4 @@ returns-in_ok-push-in-Two-3-clause-ok c =
 pub returns-in-None-clause-err : goal.returns-in-None-clause-err
 returns-in-None-clause-err c h =
     no_operation c.args.names.now _ c.in-Comp.name c.in-Comp.arity (sym c.in-Comp.is ∙ c.view.ensures)
-    (sym c.in-None.is ∙ (c.find_operation.ensures ∙ ap (λ t. operation_of t c.in-Comp.arity) c.text.ensures))
+    (sym c.in-None.is ∙ (c.find_operation.ensures ∙ ap (λ t. operation_of t c.in-Comp.arity) c.text_of.ensures))

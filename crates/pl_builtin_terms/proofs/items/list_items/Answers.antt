@@ -1,9 +1,8 @@
-use Rattle.std.proofs.Common.{◌≡◌, ◌∙◌, [], ◌∷◌, ◌++◌, ap, sym, subst, map, List, ℕ, codes, if◌then◌else◌, arith, true, false, length}
+use Rattle.std.proofs.Common.{◌≡◌, ◌∙◌, [], ◌∷◌, ◌++◌, ap, sym, subst, map, List, ℕ, codes, if◌then◌else◌, arith, true, false}
 use Rattle.std.proofs.lemmas.List.{map-append}
 use Rattle.pl_atoms.specs.Names.{same_text}
 use Rattle.pl_terms.specs.Trees.{Tree}
 use Rattle.pl_terms.specs.Order.{text_of}
-use Rattle.pl_terms.specs.NameBounds.{NamesBelow}
 use Rattle.run_model.specs.Substitution.{size}
 use Rattle.pl_unify.specs.Shape.{argument}
 use Rattle.pl_unify.specs.State.{State, tree_at}
@@ -28,15 +27,15 @@ returns-in-Int-clause-kind c =
 pub returns-in-Name-clause-kind : goal.returns-in-Name-clause-kind
 returns-in-Name-clause-kind c =
     let ts : List (Tree ℕ) = map (tree_at c.args.store.now.state) c.items.items.items in
-    listed-end c.args.store.now.state c.items.items.items c.text.result.now (listing (by_numbers c.args.names.now) (tree_at c.args.store.now.state c.args.list)) c.kind_of_end.result
+    listed-end c.args.store.now.state c.items.items.items c.text_of.result.now (listing (by_numbers c.args.names.now) (tree_at c.args.store.now.state c.args.list)) c.kind_of_end.result
     (c.items.invariant.whole ∙ (ap (all_before ts) (listing-atom c.args.names.now (tree_at c.args.store.now.state c.items.rest) c.in-Name.name c.in-Name.ensures)
-    ∙ ap (λ s. all_before ts (if same_text s (codes "[]") then proper [] else improper)) (sym c.text.ensures)))
+    ∙ ap (λ s. all_before ts (if same_text s (codes "[]") then proper [] else improper)) (sym c.text_of.ensures)))
     c.kind_of_end.ensures
 
 pub returns-then-not-is_cell-clause-kind : goal.returns-then-not-is_cell-clause-kind
 returns-then-not-is_cell-clause-kind c =
     let ts : List (Tree ℕ) = map (tree_at c.args.store.now.state) c.items.items.items in
-    let open_cell : is_cell (text_of c.args.names.now c.in-Comp.name.0) c.in-Comp.arity ≡ false = ap (λ s. is_cell s c.in-Comp.arity) (sym c.text-in-Comp.ensures) ∙ (sym c.is_cell.ensures ∙ c.if-not-is_cell.true) in
+    let open_cell : is_cell (text_of c.args.names.now c.in-Comp.name.0) c.in-Comp.arity ≡ false = ap (λ s. is_cell s c.in-Comp.arity) (sym c.text_of-in-Comp.ensures) ∙ (sym c.is_cell.ensures ∙ c.if-not-is_cell.true) in
     sym (c.items.invariant.whole
     ∙ (ap (all_before ts) (sym (listing-open c.args.names.now (tree_at c.args.store.now.state c.items.rest) c.in-Comp.name c.in-Comp.arity c.in-Comp.ensures open_cell)) ∙ all_before-improper ts))
 
@@ -44,14 +43,13 @@ pub items-preserved : goal.items-preserved
 items-preserved c =
     let s : State = c.args.store.now.state in
     let ts : List (Tree ℕ) = map (tree_at s) c.items.items.items in
-    let is : is_cell (text_of c.args.names.now c.in-Comp.name.0) c.in-Comp.arity ≡ true = ap (λ x. is_cell x c.in-Comp.arity) (sym c.text-in-Comp.ensures) ∙ (sym c.is_cell.ensures ∙ c.if-not-is_cell.false) in
+    let is : is_cell (text_of c.args.names.now c.in-Comp.name.0) c.in-Comp.arity ≡ true = ap (λ x. is_cell x c.in-Comp.arity) (sym c.text_of-in-Comp.ensures) ∙ (sym c.is_cell.ensures ∙ c.if-not-is_cell.false) in
     let cell : Cell c.args.names.now (tree_at s c.items.rest) = listing-cell c.args.names.now (tree_at s c.items.rest) c.in-Comp.name c.in-Comp.arity c.in-Comp.ensures is in
     let pushed : map (tree_at s) c.push.new.self.items ≡ ts ++ tree_at s c.arg.result ∷ [] =
     ap (map (tree_at s)) c.in_ok-push-in-Comp.ensures.items ∙ map-append (tree_at s) c.items.items.items (c.arg.result ∷ []) in
     let rest : Listing ℕ = listing (by_numbers c.args.names.now) (tree_at s c.arg-rest.result) in
     record {
       place = c.arg-rest.ensures.place;
-      named = subst (NamesBelow (length c.args.names.now)) (sym c.arg-rest.ensures.tree) (cell.named c.items.invariant.named);
       places = subst (AreRefs s) (sym c.in_ok-push-in-Comp.ensures.items) (AreRefs-push s c.items.items.items c.arg.result c.items.invariant.places c.arg.ensures.place);
       whole = c.items.invariant.whole
           ∙ (ap (all_before ts) (cell.listing ∙ (ap (λ t. before t (listing (by_numbers c.args.names.now) (argument (tree_at s c.items.rest) 1))) (sym c.arg.ensures.tree)
@@ -62,6 +60,6 @@ items-preserved c =
 pub items-smaller : goal.items-smaller
 items-smaller c =
     let s : State = c.args.store.now.state in
-    let is : is_cell (text_of c.args.names.now c.in-Comp.name.0) c.in-Comp.arity ≡ true = ap (λ x. is_cell x c.in-Comp.arity) (sym c.text-in-Comp.ensures) ∙ (sym c.is_cell.ensures ∙ c.if-not-is_cell.false) in
+    let is : is_cell (text_of c.args.names.now c.in-Comp.name.0) c.in-Comp.arity ≡ true = ap (λ x. is_cell x c.in-Comp.arity) (sym c.text_of-in-Comp.ensures) ∙ (sym c.is_cell.ensures ∙ c.if-not-is_cell.false) in
     let cell : Cell c.args.names.now (tree_at s c.items.rest) = listing-cell c.args.names.now (tree_at s c.items.rest) c.in-Comp.name c.in-Comp.arity c.in-Comp.ensures is in
     omega (arith, cell.smaller, ap size c.arg-rest.ensures.tree)

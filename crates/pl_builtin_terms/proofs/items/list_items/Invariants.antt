@@ -1,5 +1,4 @@
-use Rattle.std.proofs.Common.{◌≡◌, length, map}
-use Rattle.pl_terms.specs.NameBounds.{NamesBelow}
+use Rattle.std.proofs.Common.{◌≡◌, map}
 use Rattle.run_model.specs.Substitution.{size}
 use Rattle.pl_unify.specs.State.{IsRef, tree_at}
 use Rattle.pl_unify.specs.Making.{AreRefs}
@@ -11,7 +10,6 @@ use Rattle.pl_builtin_terms.proofs.items.list_items.Given as goal
 abbrev pub invariant-items : goal.invariant-items
 invariant-items l = record {
   place : IsRef l.store.state l.rest;
-  named : NamesBelow (length l.names) (tree_at l.store.state l.rest);
   places : AreRefs l.store.state l.items.items;
   whole : listing (by_numbers l.names) (tree_at l.store.state l.fn.list) ≡ all_before (map (tree_at l.store.state) l.items.items) (listing (by_numbers l.names) (tree_at l.store.state l.rest));
 }

@@ -4,8 +4,9 @@ use Rattle.builtin_model.specs.Naming.{by_numbers, number_in}
 use Rattle.builtin_model.specs.Faults.{fault_tree}
 use Rattle.pl_builtin_ends.specs.Meets.{fault_of}
 use Rattle.pl_builtin_ends.proofs.Known.{number-kept}
+use Rattle.pl_builtin_ends.proofs.Kept.{kept-trans}
 use Rattle.pl_builtins.specs.Ends.{row_at}
-use Rattle.pl_builtins.proofs.Ended.{no_row, row-is, row-count, row-few}
+use Rattle.pl_builtins.proofs.Ended.{no_row, row-is, row-name, row-count, row-few}
 use Rattle.pl_builtins.proofs.numbered.row_error.Goals as goal
 
 pub bounds-builtins-row : goal.bounds-builtins-row
@@ -30,3 +31,17 @@ returns-clause-tree c =
     c.in_ok-at.ensures.tree
     ∙ (ap (λ f. fault_tree (by_numbers names) fault f found.arity) kept
     ∙ ap (λ x. fault_tree (by_numbers names) fault (number_in names x.name) x.arity) row)
+
+pub returns-in_err-at-clause-kept : goal.returns-in_err-at-clause-kept
+returns-in_err-at-clause-kept c =
+    let rows = c.builtins.result.now in
+    let count : length rows ≡ 62 = row-count rows c.builtins.ensures.rows in
+    let low : c.args.row < length rows = omega (arith, count, c.requires.row) in
+    kept-trans c.args.names.now c.intern.new.names c.error_place.new.names (λ h. c.intern.ensures.there (h.procedures _ (row-name rows c.args.row c.builtins.ensures.rows low))) c.error_place.ensures.kept
+
+pub returns-clause-kept : goal.returns-clause-kept
+returns-clause-kept c =
+    let rows = c.builtins.result.now in
+    let count : length rows ≡ 62 = row-count rows c.builtins.ensures.rows in
+    let low : c.args.row < length rows = omega (arith, count, c.requires.row) in
+    kept-trans c.args.names.now c.intern.new.names c.error_place.new.names (λ h. c.intern.ensures.there (h.procedures _ (row-name rows c.args.row c.builtins.ensures.rows low))) c.error_place.ensures.kept

@@ -1,4 +1,4 @@
-use Rattle.std.proofs.Common.{◌≡◌, length, reverse}
+use Rattle.std.proofs.Common.{◌≡◌, reverse}
 use Rattle.pl_terms.specs.Order.{tree_cmp}
 use Rattle.pl_terms.specs.CellOrder.{name_cmp}
 use Rattle.pl_unify.specs.State.{tree_at}
@@ -7,7 +7,7 @@ use Rattle.pl_builtins.proofs.order.standard_order.Given as goal
 
 abbrev pub invariant-loop-p : goal.invariant-loop-p
 invariant-loop-p l = record {
-  ok : PairsOk l.store.state (length l.names) (reverse l.work.items);
+  ok : PairsOk l.store.state (reverse l.work.items);
   same : pairs_cmp l.store.state l.names (reverse l.work.items) ≡ tree_cmp (name_cmp l.names) (tree_at l.store.state l.fn.left) (tree_at l.store.state l.fn.right);
 }
 

@@ -1,4 +1,4 @@
-use Rattle.std.proofs.Common.{sym, ap, ◌∙◌, ◌-◌, arith}
+use Rattle.std.proofs.Common.{sym, ap, ◌∙◌}
 use Rattle.std.specs.Prelude.{reverse}
 use Rattle.goal_frames.specs.Frames.{place_get}
 use Rattle.goal_frames.proofs.PlaceLaws.{place_at, place_zero}

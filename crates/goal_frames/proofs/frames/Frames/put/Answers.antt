@@ -1,4 +1,4 @@
-use Rattle.std.proofs.Common.{◌≡◌, ◌≤◌, IfOk, length, subst, sym}
+use Rattle.std.proofs.Common.{◌≤◌, IfOk, length, subst, sym}
 use Rattle.goal_frames.specs.Frames.{IsPut}
 use Rattle.goal_frames.proofs.FrameLaws.{put_linked, was_put}
 use Rattle.goal_frames.proofs.frames.Frames.put.Goals as goal

@@ -1,0 +1,5 @@
+pub mod PlaceLaws
+pub mod RecordLaws
+pub mod PathLaws
+pub mod BindLaws
+pub mod BackLaws

@@ -1,0 +1,3 @@
+pub mod Denotation
+pub mod Well
+pub mod Steps

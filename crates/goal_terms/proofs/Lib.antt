@@ -1,0 +1,10 @@
+pub mod Tables
+pub mod Lookups
+pub mod Places
+pub mod RowLaws
+pub mod OtherRows
+pub mod NameLaws
+pub mod ConjunctLaws
+pub mod ListLaws
+pub mod ConversionLaws
+pub mod CallingLaws

@@ -1,0 +1,10 @@
+pub mod Units
+pub mod Lookups
+pub mod Passing
+pub mod Repeating
+pub mod Tables
+pub mod Stamps
+pub mod Needing
+pub mod Taking
+pub mod Asking
+pub mod Leasts

@@ -1,0 +1,9 @@
+pub mod DeedLaw
+pub mod Maps
+pub mod BodyLaw
+pub mod TableLaw
+pub mod Related
+pub mod RunLaw
+pub mod Entries
+pub mod Tables
+pub mod TextRun
