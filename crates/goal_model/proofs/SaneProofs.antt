@@ -7,6 +7,7 @@ use Rattle.search_theory.specs.Search.{Call, Cut, Pop, Fail, At, Catches, Collec
 use Rattle.search_theory.specs.Frames.{Falls}
 use Rattle.search_theory.specs.Configurations.{AllBelow, Clear, ItemsOk, StateOk, SaneAt, AttemptSane, AlternativesSane, RecoverSane, ActivationSane, TableSane}
 use Rattle.search_theory.proofs.FrameLaws.{append-nil}
+use Rattle.search_theory.proofs.ExitLaws.{pops-fall}
 use Rattle.search_theory.proofs.TurnLaws.{Falls-wider, below_wider, falls_ungathered, chain_falls}
 use Rattle.builtin_model.specs.Naming.{Naming}
 use Rattle.builtin_model.specs.Lists.{listing, list_tree}
@@ -66,7 +67,7 @@ module _ {N : Type 0} (n : Naming N) (same : N → N → Bool) (p : Program N) w
       (λ c. resolved_sane r fs clause c (unifier same ((r.goal, raise r.world.next clause.head) ∷ [])) falls below ok, clauses_sane r fs cs falls below ok)
 
   recovery_sane : (r : Recovery N) (fs : List (FrameOf (prolog n same p))) (t : Result (Tree N) (Tree N)) (bs : List (ℕ × Tree N)) (next : ℕ) → Falls r.depth fs → AllBelow (prolog n same p) r.depth (pops r.rest) → ItemsOk (prolog n same p) fs r.rest → SaneAt (prolog n same p) fs (recovery_point n r t bs next)
-  recovery_sane r fs (Err ball) bs next falls below ok = chain_falls (prolog n same p) r.depth fs falls
+  recovery_sane r fs (Err ball) bs next falls below ok = (chain_falls (prolog n same p) r.depth fs falls, pops-fall (prolog n same p) fs r.rest ok)
   recovery_sane r fs (Ok t) bs next falls below ok =
       let items = flat n t r.env (r.depth + 1) ++ r.rest in
       state_sane fs r.depth r.rest falls below ok (map (item_under bs) items) (record { template = map (apply bs) r.world.template; next = next })
@@ -77,7 +78,7 @@ module _ {N : Type 0} (n : Naming N) (same : N → N → Bool) (p : Program N) w
   recover_sane r fs next (Some bs) falls below ok = recovery_sane r fs (goal_of n (apply bs r.recovery) r.name 3) bs next falls below ok
 
   gather_sane : (f : Gathering N) (fs : List (FrameOf (prolog n same p))) (next : ℕ) (o : Option (List (ℕ × Tree N))) → Falls f.depth fs → AllBelow (prolog n same p) f.depth (pops f.rest) → ItemsOk (prolog n same p) fs f.rest → SaneAt (prolog n same p) fs (gathered n f next o)
-  gather_sane f fs next None falls below ok = chain_falls (prolog n same p) f.depth fs falls
+  gather_sane f fs next None falls below ok = (chain_falls (prolog n same p) f.depth fs falls, tt)
   gather_sane f fs next (Some bs) falls below ok =
       state_sane fs f.depth f.rest falls below ok (map (item_under bs) f.rest) (record { template = map (apply bs) f.world.template; next = next })
       (under_fits fs f.depth f.rest falls below ok bs f.rest (rest_fits fs f.depth f.rest falls below ok))
@@ -85,7 +86,7 @@ module _ {N : Type 0} (n : Naming N) (same : N → N → Bool) (p : Program N) w
   module _ (e : ℕ) (g : Goal N) (f : N) (k : ℕ) (rest : Items N) (w : World N) (c : Clauses N) (fs : List (FrameOf (prolog n same p))) (falls : Falls e fs) (below : AllBelow (prolog n same p) e (pops rest)) (clear : Clear (prolog n same p) fs g.reach rest) (ok : ItemsOk (prolog n same p) fs rest) where
     unless_sane : {A : Type 0} (a : Result A (Tree N)) (go : A → Moved N) → ((x : A) → ActivationSane (prolog n same p) e fs (go x)) → ActivationSane (prolog n same p) e fs (unless_raised a rest go)
     unless_sane (Ok x) go h = h x
-    unless_sane (Err ball) go h = tt
+    unless_sane (Err ball) go h = pops-fall (prolog n same p) fs rest ok
 
     -- an alternative that binds nothing
     on_sane : (items : Items N) → Fits n same p fs items rest → (d : Clauses N) → AttemptSane (prolog n same p) e fs (Some (place e items w, d))
@@ -121,19 +122,19 @@ module _ {N : Type 0} (n : Naming N) (same : N → N → Bool) (p : Program N) w
     differ_sane (Some bs) = tt
 
     done_sane : (bytes : List ℕ) (d : Deed N) → ActivationSane (prolog n same p) e fs (done n same e f k rest w bytes d)
-    done_sane bytes (equal es new) = (refl, falls, bound_sane fs e rest falls below ok (unifier same es) w (w.next + new))
-    done_sane bytes (differ t u) = (refl, falls, differ_sane (unifier same ((t, u) ∷ [])))
-    done_sane bytes no = (refl, falls, tt)
-    done_sane bytes (raises fault) = tt
+    done_sane bytes (equal es new) = (refl, (falls, tt), bound_sane fs e rest falls below ok (unifier same es) w (w.next + new))
+    done_sane bytes (differ t u) = (refl, (falls, tt), differ_sane (unifier same ((t, u) ∷ [])))
+    done_sane bytes no = (refl, (falls, tt), tt)
+    done_sane bytes (raises fault) = pops-fall (prolog n same p) fs rest ok
     done_sane bytes (halt z) = tt
 
     user_sane : (s : N) (ts : Trees N) (o : Option N) → ActivationSane (prolog n same p) e fs (by_clauses n p e g rest w c s ts o)
-    user_sane s ts None = tt
+    user_sane s ts None = pops-fall (prolog n same p) fs rest ok
     user_sane s ts (Some d) =
-        (refl, falls, clauses_sane (resolution n e g rest w d s ts (p.modes d (record { name = s; arity = count ts }))) fs (c d (record { name = s; arity = count ts })) falls below ok)
+        (refl, (falls, tt), clauses_sane (resolution n e g rest w d s ts (p.modes d (record { name = s; arity = count ts }))) fs (c d (record { name = s; arity = count ts })) falls below ok)
 
     caught_sane : (r : Recovery N) (t : Result (Tree N) (Tree N)) → SaneAt (prolog n same p) (Catches e r ∷ fs) (caught n e g rest w t)
-    caught_sane r (Err ball) = falls
+    caught_sane r (Err ball) = (falls, (below, pops-fall (prolog n same p) fs rest ok))
     caught_sane r (Ok t) =
         let items = flat n t (argument_place g.env) (e + 1) ++ (Pop e ∷ rest) in
         let above : Clear (prolog n same p) (Catches e r ∷ fs) (e + 1) (Pop e ∷ rest) = ((omega arith, (clear_above fs e rest falls below ok).0), (clear_above fs e rest falls below ok).1) in
@@ -148,37 +149,37 @@ module _ {N : Type 0} (n : Naming N) (same : N → N → Bool) (p : Program N) w
         ((omega arith, falls), subst (AllBelow (prolog n same p) (e + 1)) (sym (pops-goals n b (argument_place g.env) (e + 1))) tt, subst (ItemsOk (prolog n same p) inner) (append-nil items) fits.ok)
 
     row_sane : (r : Row N) → ActivationSane (prolog n same p) e fs (row n same p e g f k rest w c r)
-    row_sane commit = (refl, falls, (on_sane (Cut g.reach ∷ rest) (cut_fits g.reach rest clear after), tt))
+    row_sane commit = (refl, (falls, tt), (on_sane (Cut g.reach ∷ rest) (cut_fits g.reach rest clear after), tt))
     row_sane (if_then_else i t u) =
-        (refl, falls, (on_sane (flat n i g.env (e + 1) ++ (Cut e ∷ (flat n t g.env g.reach ++ rest))) (condition_fits i t), (on_sane (flat n u g.env g.reach ++ rest) (open_fits u), tt)))
-    row_sane (if_then i t) = (refl, falls, (on_sane (flat n i g.env (e + 1) ++ (Cut e ∷ (flat n t g.env g.reach ++ rest))) (condition_fits i t), tt))
-    row_sane (either t u) = (refl, falls, (on_sane (flat n t g.env g.reach ++ rest) (open_fits t), (on_sane (flat n u g.env g.reach ++ rest) (open_fits u), tt)))
+        (refl, (falls, tt), (on_sane (flat n i g.env (e + 1) ++ (Cut e ∷ (flat n t g.env g.reach ++ rest))) (condition_fits i t), (on_sane (flat n u g.env g.reach ++ rest) (open_fits u), tt)))
+    row_sane (if_then i t) = (refl, (falls, tt), (on_sane (flat n i g.env (e + 1) ++ (Cut e ∷ (flat n t g.env g.reach ++ rest))) (condition_fits i t), tt))
+    row_sane (either t u) = (refl, (falls, tt), (on_sane (flat n t g.env g.reach ++ rest) (open_fits t), (on_sane (flat n u g.env g.reach ++ rest) (open_fits u), tt)))
     row_sane (negation t) =
         unless_sane (goal_of n t f k) _ (λ b.
-        (refl, falls, (on_sane (flat n b (argument_place g.env) (e + 1) ++ (Cut e ∷ Fail ∷ rest)) (local_fits b (argument_place g.env) (Cut e ∷ Fail ∷ rest) (cut_fits e (Fail ∷ rest) here fail_fits)), (on_sane rest after, tt))))
+        (refl, (falls, tt), (on_sane (flat n b (argument_place g.env) (e + 1) ++ (Cut e ∷ Fail ∷ rest)) (local_fits b (argument_place g.env) (Cut e ∷ Fail ∷ rest) (cut_fits e (Fail ∷ rest) here fail_fits)), (on_sane rest after, tt))))
     row_sane (once t) =
         unless_sane (goal_of n t f k) _ (λ b.
-        (refl, falls, (on_sane (flat n b (argument_place g.env) (e + 1) ++ (Cut e ∷ rest)) (local_fits b (argument_place g.env) (Cut e ∷ rest) (cut_fits e rest here after)), tt)))
+        (refl, (falls, tt), (on_sane (flat n b (argument_place g.env) (e + 1) ++ (Cut e ∷ rest)) (local_fits b (argument_place g.env) (Cut e ∷ rest) (cut_fits e rest here after)), tt)))
     row_sane (calling t ts) =
         unless_sane (called n t ts f k) _ (λ b.
-        (refl, falls, (on_sane (flat n b (argument_place g.env) (e + 1) ++ rest) (local_fits b (argument_place g.env) rest after), tt)))
+        (refl, (falls, tt), (on_sane (flat n b (argument_place g.env) (e + 1) ++ rest) (local_fits b (argument_place g.env) rest after), tt)))
     row_sane (in_module m t) =
         unless_sane (module_of n p m g.env.lookup f k) _ (λ d. unless_sane (goal_of n t f k) _ (λ b.
         let env : Environment N = record { lookup = d; context = d; caller = g.env.caller } in
-        (refl, falls, (on_sane (flat n b env (e + 1) ++ rest) (local_fits b env rest after), tt))))
+        (refl, (falls, tt), (on_sane (flat n b env (e + 1) ++ rest) (local_fits b env rest after), tt))))
     row_sane (from_context t m) =
         unless_sane (module_of n p m g.env.lookup f k) _ (λ d. unless_sane (goal_of n t f k) _ (λ b.
         let env : Environment N = record { lookup = g.env.lookup; context = d; caller = g.env.caller } in
-        (refl, falls, (on_sane (flat n b env (e + 1) ++ rest) (local_fits b env rest after), tt))))
-    row_sane repeat = (refl, falls, (on_sane rest after, (on_sane (Call g ∷ rest) (record { ok = (clear, ok); exits = refl }), tt)))
-    row_sane (throwing t) = tt
+        (refl, (falls, tt), (on_sane (flat n b env (e + 1) ++ rest) (local_fits b env rest after), tt))))
+    row_sane repeat = (refl, (falls, tt), (on_sane rest after, (on_sane (Call g ∷ rest) (record { ok = (clear, ok); exits = refl }), tt)))
+    row_sane (throwing t) = pops-fall (prolog n same p) fs rest ok
     row_sane (catching t x r) =
         let rec : Recovery N = record { depth = e; catcher = x; recovery = r; name = f; env = argument_place g.env; rest = rest; world = w } in
         (refl, caught_sane rec (goal_of n t f k), λ ball. recover_sane rec fs (w.next + variable_count ball) (unifier same ((copy_from w.next ball, x) ∷ [])) falls below ok)
     row_sane (collecting x t z) =
         unless_sane (list_fault n (listing n z) z f k) _ (λ z. unless_sane (goal_of n t f k) _ (λ b.
         let gathering : Gathering N = record { depth = e; list = z; rest = rest; world = w } in
-        (refl, nested_sane x b gathering, λ ts. gather_sane gathering fs (copies w.next (map (answer_term n) ts)).1 (unifier same ((list_tree n (copies w.next (map (answer_term n) ts)).0, z) ∷ [])) falls below ok)))
+        (refl, nested_sane x b gathering, (pops-fall (prolog n same p) fs rest ok, λ ts. gather_sane gathering fs (copies w.next (map (answer_term n) ts)).1 (unifier same ((list_tree n (copies w.next (map (answer_term n) ts)).0, z) ∷ [])) falls below ok))))
     row_sane (plain r ts) = done_sane (output n r ts) (deed n r ts g.env.caller w.next)
     row_sane (user s ts) = user_sane s ts (p.visible g.env.lookup (record { name = s; arity = count ts }))
 
@@ -191,7 +192,7 @@ module _ {N : Type 0} (n : Naming N) (same : N → N → Bool) (p : Program N) w
   start_sane t = go (goal_of n t (n.name (codes "call")) 1)
     where
       go : (r : Result (Tree N) (Tree N)) → SaneAt (prolog n same p) [] (starting n r (length (variables t)))
-      go (Err ball) = tt
+      go (Err ball) = (tt, tt)
       go (Ok b) =
           let items = flat n b (user_place n) 0 in
           let fits = flat_fits n same p [] b (user_place n) 0 [] (tt, tt) tt in

@@ -1,10 +1,10 @@
 mod Walks
 mod Lists
-mod Firsts
-mod Finding
+pub mod Firsts
+pub mod Finding
 mod Endings
-mod Copies
-mod New
+pub mod Copies
+pub mod New
 mod Parts
-mod Renumbering
+pub mod Renumbering
 pub mod Made

@@ -38,8 +38,8 @@ fn unify_copy(alloc: Global, store: &mut Store, term: Ref, copy: Ref) -> Result<
     unify(store, copy, made)
 }
 
-// The term with its variables numbered from 0 in order of first occurrence.
-fn numbered(alloc: Global, term: &Term) -> Result<Term, NoMemory>
+/// The term with its variables numbered from 0 in order of first occurrence. The only error is want of memory.
+pub fn numbered(alloc: Global, term: &Term) -> Result<Term, NoMemory>
     ensures { IfOk result (λ numbered. numbered ≡ canon term.now) }
 {
     let mut seen = IndexSet::new(alloc);

@@ -9,7 +9,7 @@ mod univ_row;
 mod variables;
 mod writing;
 
-pub use copying::copy_term;
+pub use copying::{copy_term, numbered};
 pub use error_term::error_place;
 pub use functor_row::functor;
 pub use univ_row::univ;

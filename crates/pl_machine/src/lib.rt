@@ -1,9 +1,15 @@
-//! The search for the answers of a goal.
+//! The machine that runs a goal over a linked program (ISO/IEC 13211-1, 7.7).
 #![tactic(auto)]
 
-mod simple;
+mod fault;
+mod library;
+mod line;
+mod machine;
+mod moves;
+mod run;
 
-pub use simple::{RunFault, SimpleEnd, run_simple};
-
-#[cfg(test)]
-mod tests;
+pub use fault::RunFault;
+pub use machine::Machine;
+pub use moves::Progress;
+pub use prep_report::End2 as End;
+pub use run::Show;

@@ -136,6 +136,14 @@ impl Program {
         &self.tables
     }
 
+    /// A program of names and of what it holds beside them, which is in order.
+    pub fn from_parts(names: Names, tables: Tables) -> Program
+        requires { IsLinked (with_names tables names) }
+        ensures { result ≡ with_names tables names }
+    {
+        Program { names, tables }
+    }
+
     /// The program's names, and what it holds beside them. Where names are only added to the table, the program stays in order.
     pub fn into_parts(self) -> (Names, Tables)
         ensures whole { with_names result.1 result.0 ≡ self }

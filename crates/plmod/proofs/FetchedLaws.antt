@@ -7,10 +7,9 @@ use Rattle.plm_io.proofs.FrontLaws.{front_of_nothing, Appends_nothing}
 use Rattle.plm_io.specs.declared.traits.IoFault.{IoFault}
 use Rattle.plm_io.specs.declared.traits.IoFault.TheVariants.{Failed, NoMemory as OutOfMemory}
 use Rattle.plmod.specs.declared.status.Status.{Status}
-use Rattle.plmod.specs.declared.status.Status.TheVariants.{Done, Usage, PrepFault, NotUnit, Spent, ReadFault, WriteFault, NoMemory, NotBuilt}
-use Rattle.plmod.specs.Words.{Order, All, read_names, out_name}
-use Rattle.plmod.specs.Outcome.{Outcome, usage, usage_text, not_built, all_outcome}
-use Rattle.plmod.specs.Comes.{Comes}
+use Rattle.plmod.specs.declared.status.Status.TheVariants.{Done, Usage, PrepFault, NotUnit, LinkFault, GoalFault, Uncaught, Spent, ReadFault, WriteFault, NoMemory}
+use Rattle.plmod.specs.Words.{Order, read_names}
+use Rattle.plmod.specs.Outcome.{Outcome, usage, usage_text}
 use Rattle.plmod.specs.Meets.{Answers, IsUsage, Told, Tells, bytes_under, Gives, AreReadable, AnyRose, HasStored, Around, Meets}
 use Rattle.plmod.specs.Fetched.{IsUnder, AreUnder}
 
@@ -56,29 +55,15 @@ readable_all file [] (c ∷ contents) tells h = absurd h
 readable_all file (n ∷ names) [] tells h = absurd h
 readable_all file (n ∷ names) (c ∷ contents) tells h = ((c, told_one file n c tells.0 h.0, h.0.1), readable_all file names contents tells.1 h.1)
 
-no_out : (stored : Option (List ℕ)) (old new : Told) → new ≡ old → HasStored None stored old new
+pub same_length : (file : Told) (names contents : List (List ℕ)) → AreUnder file names contents → length names ≡ length contents
+same_length file [] [] h = refl
+same_length file [] (c ∷ contents) h = absurd h
+same_length file (n ∷ names) [] h = absurd h
+same_length file (n ∷ names) (c ∷ contents) h = (let e = same_length file names contents h.1 in omega (arith, e))
+
+pub no_out : (stored : Option (List ℕ)) (old new : Told) → new ≡ old → HasStored None stored old new
 no_out None old new h = h
 no_out (Some bytes) old new h = h
-
--- a run over one text, which puts no file
-pub meets_all : (budget : ℕ) (goal : List ℕ) (texts contents : List (List ℕ)) (status : Status) (a : Around) → length texts ≡ 1 → AreUnder a.file texts contents
-    → Gives status (all_outcome budget goal contents) a.written a.written_after → (status ≡ WriteFault → Rose a.faults a.faults_after) → status ≢ ReadFault
-    → (status ≡ NotBuilt → Keeps a.written a.written_after) → status ≢ Usage → a.file_after ≡ a.file → Meets (Some (All budget goal texts)) status a
-meets_all budget goal [] contents status a one under gives write read not_built used same = absurd (omega arith)
-meets_all budget goal (text ∷ other ∷ texts) contents status a one under gives write read not_built used same = absurd (omega arith)
-meets_all budget goal (text ∷ []) contents status a one under gives write read not_built used same =
-    record {
-      output = λ tells o h. (let P : Outcome → Type 0 = λ p. Gives status p a.written a.written_after in subst P (sym (h ∙ ap (all_outcome budget goal) (bytes_all a.file (text ∷ []) contents tells under))) gives);
-      stored = λ whole tells o h. no_out o.stored a.file a.file_after same;
-      readable = λ whole tells. readable_all a.file (text ∷ []) contents tells under;
-      no_command = λ h. absurd (cc);
-      usage = λ h. absurd (used h);
-      read_fault = λ h. absurd (read h);
-      write_fault = λ h. inr (write h, λ tells o k. no_out o.stored a.file a.file_after same);
-      others = λ name h. ap (λ (f : Told). f name) same;
-      unread = λ h. absurd (read h);
-      not_built = λ h. (not_built h, same);
-    }
 
 pub keeps_same : (old new : Option (List ℕ)) → new ≡ old → Keeps old new
 keeps_same None new h = tt
@@ -102,7 +87,6 @@ meets_unread order Failed status a failed memory some any same nothing =
       write_fault = λ h. (cc);
       others = λ name h. ap (λ (f : Told). f name) same;
       unread = λ h. (keeps_same a.written a.written_after nothing, same);
-      not_built = λ h. (cc);
     })
 meets_unread order OutOfMemory status a failed memory some any same nothing =
     let P : Status → Type 0 = λ s. Meets order s a in
@@ -116,7 +100,6 @@ meets_unread order OutOfMemory status a failed memory some any same nothing =
       write_fault = λ h. (cc);
       others = λ name h. ap (λ (f : Told). f name) same;
       unread = λ h. (cc);
-      not_built = λ h. (cc);
     })
 
 -- the line of words that are no command
@@ -133,7 +116,6 @@ meets_usage status a gives write read same =
       write_fault = λ h. inr (write h, λ tells o k. no_out o.stored a.file a.file_after same);
       others = λ name h. ap (λ (f : Told). f name) same;
       unread = λ h. absurd (read h);
-      not_built = λ h. absurd (no_other status gives h);
     }
   where
     is_usage : (s : Status) → Answers s Usage usage_text a.written a.written_after → s ≢ ReadFault → IsUsage s
@@ -141,45 +123,16 @@ meets_usage status a gives write read same =
     is_usage Usage g r = tt
     is_usage PrepFault g r = (let e = g.0 in cc)
     is_usage NotUnit g r = (let e = g.0 in cc)
+    is_usage LinkFault g r = (let e = g.0 in cc)
+    is_usage GoalFault g r = (let e = g.0 in cc)
+    is_usage Uncaught g r = (let e = g.0 in cc)
     is_usage Spent g r = (let e = g.0 in cc)
     is_usage ReadFault g r = absurd (r refl)
     is_usage WriteFault g r = tt
     is_usage NoMemory g r = tt
-    is_usage NotBuilt g r = (let e = g.0 in cc)
 
-    no_other : (s : Status) → Answers s Usage usage_text a.written a.written_after → s ≡ NotBuilt → ⊥
-    no_other Done g h = (cc)
-    no_other Usage g h = (cc)
-    no_other PrepFault g h = (cc)
-    no_other NotUnit g h = (cc)
-    no_other Spent g h = (cc)
-    no_other ReadFault g h = (cc)
-    no_other WriteFault g h = (cc)
-    no_other NoMemory g h = (cc)
-    no_other NotBuilt g h = (let e = g.0 in cc)
-
-appends_nothing : (old new : Option (List ℕ)) → new ≡ old → Appends old new []
+pub appends_nothing : (old new : Option (List ℕ)) → new ≡ old → Appends old new []
 appends_nothing old new h = let P : Option (List ℕ) → Type 0 = λ n. Appends old n [] in subst P (sym h) (Appends_nothing old)
-
--- a command that isn't built, refused before any fetch
-pub meets_refused : (order : Option Order) (a : Around) → ((files : List ℕ → List ℕ) (o : Outcome) → Comes order files o → o ≡ not_built) → read_names order ≡ [] → order ≢ None
-    → a.file_after ≡ a.file → a.written_after ≡ a.written → Meets order NotBuilt a
-meets_refused order a refused reads some same nothing =
-    let G : Outcome → Type 0 = λ o. Gives NotBuilt o a.written a.written_after in
-    let S : Outcome → Type 0 = λ o. HasStored (out_name order) o.stored a.file a.file_after in
-    let R : List (List ℕ) → Type 0 = λ l. AreReadable l a.file in
-    record {
-      output = λ tells o h. subst G (sym (refused (bytes_under a.file) o h)) (refl, appends_nothing a.written a.written_after nothing);
-      stored = λ whole tells o h. subst S (sym (refused (bytes_under a.file) o h)) same;
-      readable = λ whole tells. subst R (sym reads) tt;
-      no_command = λ h. absurd (some h);
-      usage = λ h. (cc);
-      read_fault = λ h. (cc);
-      write_fault = λ h. (cc);
-      others = λ name h. ap (λ (f : Told). f name) same;
-      unread = λ h. (cc);
-      not_built = λ h. (keeps_same a.written a.written_after nothing, same);
-    }
 
 -- a shelf that tells of each name
 pub tells_all : (names : List (List ℕ)) (file : Told) → ((name : List ℕ) → MatchOption (file name) ⊥ (λ _. Unit {0})) → Tells names file
@@ -196,8 +149,10 @@ answers_appends Done want bytes old new r w m h = h.1
 answers_appends Usage want bytes old new r w m h = h.1
 answers_appends PrepFault want bytes old new r w m h = h.1
 answers_appends NotUnit want bytes old new r w m h = h.1
+answers_appends LinkFault want bytes old new r w m h = h.1
+answers_appends GoalFault want bytes old new r w m h = h.1
+answers_appends Uncaught want bytes old new r w m h = h.1
 answers_appends Spent want bytes old new r w m h = h.1
-answers_appends NotBuilt want bytes old new r w m h = h.1
 
 -- counts that stay 0 have not risen
 pub no_faults : {A B : Type 0} → (Rose 0 0 × A) ⊎ (Rose 0 0 × B) → ⊥

@@ -1,11 +1,9 @@
 -- What is written in two parts.
-use Rattle.std.proofs.Common.{◌≡◌, ◌≢◌, ℕ, List, ◌++◌, Option, refl, subst}
+use Rattle.std.proofs.Common.{◌≢◌, ℕ, List, ◌++◌, Option, refl}
 use Rattle.std.specs.Io.KnownBytes.{Appends}
 use Rattle.plm_io.proofs.FrontLaws.{Appends-append, front_of_second}
-use Rattle.pl_machine.specs.declared.simple.SimpleEnd.{SimpleEnd}
 use Rattle.plmod.specs.declared.status.Status.{Status}
-use Rattle.plmod.specs.declared.status.Status.TheVariants.{Done, Usage, PrepFault, NotUnit, Spent, ReadFault, WriteFault, NoMemory, NotBuilt}
-use Rattle.plmod.specs.Outcome.{end_line, status_of}
+use Rattle.plmod.specs.declared.status.Status.TheVariants.{Done, Usage, PrepFault, NotUnit, LinkFault, GoalFault, Uncaught, Spent, ReadFault, WriteFault, NoMemory}
 use Rattle.plmod.specs.Meets.{Answers}
 
 -- after the first part, what answers the second answers both
@@ -15,14 +13,10 @@ answers_after Done want first second old mid new r p q = (q.0, Appends-append ol
 answers_after Usage want first second old mid new r p q = (q.0, Appends-append old mid new first second p q.1)
 answers_after PrepFault want first second old mid new r p q = (q.0, Appends-append old mid new first second p q.1)
 answers_after NotUnit want first second old mid new r p q = (q.0, Appends-append old mid new first second p q.1)
+answers_after LinkFault want first second old mid new r p q = (q.0, Appends-append old mid new first second p q.1)
+answers_after GoalFault want first second old mid new r p q = (q.0, Appends-append old mid new first second p q.1)
+answers_after Uncaught want first second old mid new r p q = (q.0, Appends-append old mid new first second p q.1)
 answers_after Spent want first second old mid new r p q = (q.0, Appends-append old mid new first second p q.1)
-answers_after NotBuilt want first second old mid new r p q = (q.0, Appends-append old mid new first second p q.1)
 answers_after WriteFault want first second old mid new r p q = front_of_second old mid new first second p q
 answers_after NoMemory want first second old mid new r p q = front_of_second old mid new first second p q
 answers_after ReadFault want first second old mid new r p q = absurd (r refl)
-
-pub answers_run : (status : Status) (end want : SimpleEnd) (first : List ℕ) (old mid new : Option (List ℕ)) → status ≢ ReadFault → end ≡ want
-    → Appends old mid first → Answers status (status_of end) (end_line end) mid new → Answers status (status_of want) (first ++ end_line want) old new
-answers_run status end want first old mid new r same p q =
-    let P : SimpleEnd → Type 0 = λ e. Answers status (status_of e) (first ++ end_line e) old new in
-    subst P same (answers_after status (status_of end) first (end_line end) old mid new r p q)

@@ -1,54 +1,26 @@
 -- What the command `prepare` promises as a whole.
-use Rattle.std.proofs.Common.{◌≡◌, ◌≢◌, ℕ, suc, ◌+◌, ◌<◌, ◌≤◌, ◌⊎◌, inl, inr, List, [], ◌∷◌, ◌++◌, length, map, Option, Some, None, refl, sym, ap, ◌∙◌, subst, arith}
-use Rattle.std.specs.Io.KnownBytes.{Appends, Keeps}
+use Rattle.std.proofs.Common.{◌≡◌, ℕ, suc, ◌≤◌, ◌⊎◌, inl, inr, List, [], ◌∷◌, length, map, Option, Some, refl, sym, ap, ◌∙◌, subst, arith}
 use Rattle.std.specs.List.{Contains}
-use Rattle.plm_io.specs.Causes.{Rose, AppendsFront}
+use Rattle.plm_io.specs.Causes.{Rose}
 use Rattle.plm_io.specs.declared.traits.IoFault.{IoFault}
 use Rattle.plm_io.specs.declared.traits.IoFault.TheVariants.{Failed, NoMemory as OutOfMemory}
 use Rattle.unit_model.specs.Facts.{Facts}
 use Rattle.unit_model.specs.Directives.{Text}
-use Rattle.unit_model.specs.Prepared.{Prepared, FirstFault, PreparingIsDecided}
 use Rattle.unit_model.specs.Preparing.{Interface}
-use Rattle.unit_model.specs.Encoding.{encoding}
 use Rattle.prep_report.specs.Lines.{not_unit_text}
-use Rattle.unit_model.specs.Validity.{IsUnit}
-use Rattle.unit_format.proofs.Decodes.{one_unit}
 use Rattle.reading_laws.proofs.Decided.{PreparingIsDecided-holds}
 use Rattle.plmod.specs.declared.status.Status.{Status}
-use Rattle.plmod.specs.declared.status.Status.TheVariants.{Done, Usage, PrepFault, NotUnit, Spent, ReadFault, WriteFault, NoMemory, NotBuilt}
-use Rattle.plmod.specs.Words.{Order, Prepare, Link, Run, All, Show, Grow, read_names, out_name}
-use Rattle.plmod.specs.Outcome.{Outcome}
-use Rattle.plmod.specs.Comes.{Comes, OneOutcome}
-use Rattle.plmod.specs.Prepares.{AreUnits, no_files, one_more, FirstNoUnit, here, later, known_from, PrepareGives, no_unit, fault, too_long, unit, faulty, told, clause_count}
+use Rattle.plmod.specs.declared.status.Status.TheVariants.{NotUnit, ReadFault, NoMemory}
+use Rattle.plmod.specs.Words.{Order, Prepare}
+use Rattle.plmod.specs.Outcome.{Outcome, told}
+use Rattle.plmod.specs.Comes.{Comes}
+use Rattle.plmod.specs.Prepares.{AreUnits, FirstNoUnit, known_from, PrepareGives, no_unit, fault, too_long, unit, faulty}
 use Rattle.plmod.specs.Fetched.{IsUnder, AreUnder}
 use Rattle.plmod.specs.Gathering.{UnitGives, TextGives, fault as text_fault, made as text_made}
 use Rattle.plmod.specs.Knowing.{IsCarriedOut, IsStopped, PreparesKnown}
-use Rattle.plmod.specs.Meets.{Answers, Told, Tells, bytes_under, Gives, IsWhole, AnyRose, HasStored, Around, Meets}
+use Rattle.plmod.specs.Meets.{Told, Tells, bytes_under, Gives, AnyRose, HasStored, Around, Meets}
 use Rattle.plmod.proofs.FetchedLaws.{bytes_all, readable_all, keeps_same, front_same}
-
-same_units : (contents : List (List ℕ)) (fs gs : List (Facts Text)) → AreUnits contents fs → AreUnits contents gs → fs ≡ gs
-same_units [] [] [] no_files no_files = refl
-same_units [] [] (g ∷ gs) a b = elim b [ ]
-same_units [] (f ∷ fs) gs a b = elim a [ ]
-same_units (c ∷ contents) [] gs a b = elim a [ ]
-same_units (c ∷ contents) (f ∷ fs) [] a b = elim b [ ]
-same_units (c ∷ contents) (f ∷ fs) (g ∷ gs) (one_more u are) (one_more v more) =
-    ap (λ x. x ∷ fs) (one_unit f g c u v) ∙ ap (λ l. g ∷ l) (same_units contents fs gs are more)
-
-same_first : (names contents : List (List ℕ)) (a b : List ℕ) → FirstNoUnit names contents a → FirstNoUnit names contents b → a ≡ b
-same_first [] contents a b p q = elim p [ ]
-same_first (n ∷ names) [] a b p q = elim p [ ]
-same_first (n ∷ names) (c ∷ contents) a b (here absent) (here none) = refl
-same_first (n ∷ names) (c ∷ contents) a b (here absent) (later f u later_one) = absurd (absent f u)
-same_first (n ∷ names) (c ∷ contents) a b (later f u first) (here absent) = absurd (absent f u)
-same_first (n ∷ names) (c ∷ contents) a b (later f u first) (later g v other) = same_first names contents a b first other
-
-no_first : (names contents : List (List ℕ)) (fs : List (Facts Text)) (a : List ℕ) → AreUnits contents fs → FirstNoUnit names contents a → ⊥
-no_first [] contents fs a p q = elim q [ ]
-no_first (n ∷ names) [] fs a p q = elim q [ ]
-no_first (n ∷ names) (c ∷ contents) [] a p q = elim p [ ]
-no_first (n ∷ names) (c ∷ contents) (f ∷ fs) a (one_more u are) (here absent) = absent f u
-no_first (n ∷ names) (c ∷ contents) (f ∷ fs) a (one_more u are) (later g v first) = no_first names contents fs a are first
+use Rattle.plmod.proofs.Firsts.{same_units, same_first, no_first}
 
 -- ---- one outcome
 
@@ -94,15 +66,6 @@ one_prepared name names text contents o p g h = go (split name names text conten
         let P : List (Facts Text) → Type 0 = λ fs. TextGives name (known_from fs) text p in
         one_of_text name (known_from a.0) text o p a.2 (subst P (same_units contents b.0 a.0 b.1 a.1) b.2)
 
-pub one_outcome : OneOutcome
-one_outcome None files o p g h = g ∙ sym h
-one_outcome (Some (Prepare out text known)) files o p g h = one_prepared text known (files text) (map files known) o p g h
-one_outcome (Some (Link units)) files o p g h = g ∙ sym h
-one_outcome (Some (Run budget goal units)) files o p g h = g ∙ sym h
-one_outcome (Some (All budget goal texts)) files o p g h = g ∙ sym h
-one_outcome (Some (Show units)) files o p g h = g ∙ sym h
-one_outcome (Some (Grow count budget)) files o p g h = g ∙ sym h
-
 -- ---- the command
 
 abbrev first_of : List (List ℕ) → List ℕ
@@ -136,7 +99,6 @@ carried out name text known status a under c =
       write_fault = λ h. elim (c.write_fault h) [ inl k ↦ inl k | inr k ↦ inr (k.0, λ tells o g. subst S (one tells o g) k.1) ];
       others = c.others;
       unread = λ h. absurd (c.read h);
-      not_built = λ h. absurd (c.built h);
     }
 
 -- stopped before anything was put or written; the names that were read so far may have failed
@@ -158,7 +120,6 @@ stopped out name known names status a within s = go s.cause
           write_fault = λ k. (cc);
           others = λ n k. ap (λ (f : Told). f n) s.files;
           unread = λ k. (cc);
-          not_built = λ k. (cc);
         })
     go (inr h) =
         let P : Status → Type 0 = λ t. Meets (Some (Prepare out name known)) t a in
@@ -172,7 +133,6 @@ stopped out name known names status a within s = go s.cause
           write_fault = λ k. (cc);
           others = λ n k. ap (λ (f : Told). f n) s.files;
           unread = λ k. (keeps_same a.written a.written_after s.written, s.files);
-          not_built = λ k. (cc);
         })
 
 first_name : (name : List ℕ) (known : List (List ℕ)) → Contains (name ∷ known) name
@@ -199,7 +159,6 @@ read_first out name text known status a mid counts under (inl c) =
       others = c.others;
       read = c.read;
       used = c.used;
-      built = c.built;
     })
 read_first out name text known status a mid counts under (inr s) =
     let rose : (n : List ℕ) → Rose (mid n) (a.fetches_after n) → Rose (a.fetches n) (a.fetches_after n) =
@@ -228,9 +187,3 @@ unread_known out name text known Failed status a failed memory rose files writte
     inr (record { cause = inr (failed refl, rose refl); files = files; written = written })
 unread_known out name text known OutOfMemory status a failed memory rose files written =
     inr (record { cause = inl (memory refl); files = files; written = written })
-
-pub same_length : (file : Told) (names contents : List (List ℕ)) → AreUnder file names contents → length names ≡ length contents
-same_length file [] [] h = refl
-same_length file [] (c ∷ contents) h = absurd h
-same_length file (n ∷ names) [] h = absurd h
-same_length file (n ∷ names) (c ∷ contents) h = (let e = same_length file names contents h.1 in omega (arith, e))

@@ -1,9 +1,8 @@
 -- Words and files have an outcome.
-use Rattle.std.proofs.Common.{◌≡◌, ℕ, ◌<◌, ◌≤◌, ◌⊎◌, inl, inr, List, [], ◌∷◌, length, map, Bool, true, false, nat_lt, Option, Some, None, refl, sym, ◌∙◌, arith}
+use Rattle.std.proofs.Common.{◌≡◌, ℕ, ◌⊎◌, inl, inr, List, [], ◌∷◌, length, map, Bool, true, false, nat_lt, Option, Some, None, refl, sym, ◌∙◌}
 use Rattle.std.proofs.lemmas.Bool.{ltb-true, ltb-false}
 use Rattle.unit_model.specs.Facts.{Facts}
 use Rattle.unit_model.specs.Directives.{Text}
-use Rattle.unit_model.specs.Preparing.{Interface}
 use Rattle.unit_model.specs.Prepared.{Prepared, FirstFault}
 use Rattle.unit_model.specs.Encoding.{encoding}
 use Rattle.unit_model.specs.Validity.{IsUnit}
@@ -11,9 +10,13 @@ use Rattle.unit_format.specs.Reading.{Raw}
 use Rattle.unit_format.specs.Decoding.{AreBytes, decoded, facts_of}
 use Rattle.unit_format.proofs.Exact.{exact}
 use Rattle.reading_laws.proofs.Decided.{PreparingIsDecided-holds}
-use Rattle.plmod.specs.Words.{Order, Prepare, Link, Run, All, Show, Grow}
-use Rattle.plmod.specs.Outcome.{Outcome, usage, not_built, all_outcome}
-use Rattle.plmod.specs.Comes.{Comes, SomeOutcome}
+use Rattle.plmod.specs.Words.{Prepare, Link, Run, All, Show, Grow}
+use Rattle.plmod.specs.Outcome.{Outcome, usage}
+use Rattle.plmod.specs.Comes.{SomeOutcome}
+use Rattle.goal_text.specs.Goals.{GoalsAreDecided}
+use Rattle.plmod.specs.Runs.{RunGives, no_unit as run_no_unit}
+use Rattle.plmod.proofs.SomeRun.{some_run, some_all, some_grown}
+use Rattle.plmod.specs.Links.{UnitsGive, no_unit as gives_no_unit, units as gives_units, link_lines, show_lines}
 use Rattle.plmod.specs.Prepares.{AreUnits, no_files, one_more, FirstNoUnit, here, later, known_from, PrepareGives, no_unit, fault, too_long, unit}
 
 -- bytes are a unit's or they are not
@@ -60,11 +63,29 @@ some_prepared name known files are = go (units_or_first files are known)
     go (inr first) = (_, no_unit first.0 first.1)
     go (inl units) = of_known name known (files name) (map files known) units.0 units.1 (PreparingIsDecided-holds (known_from units.0) (files name)).either
 
-pub some_outcome : SomeOutcome
-some_outcome None files are = (usage, refl)
-some_outcome (Some (Prepare out text known)) files are = some_prepared text known files are
-some_outcome (Some (Link units)) files are = (not_built, refl)
-some_outcome (Some (Run budget goal units)) files are = (not_built, refl)
-some_outcome (Some (All budget goal texts)) files are = (all_outcome budget goal (map files texts), refl)
-some_outcome (Some (Show units)) files are = (not_built, refl)
-some_outcome (Some (Grow count budget)) files are = (not_built, refl)
+some_linked : (lines : List (Facts Text) → List ℕ) (names : List (List ℕ)) (files : List ℕ → List ℕ) → ((n : List ℕ) → AreBytes (files n))
+    → (o : Outcome) × UnitsGive lines names (map files names) o
+some_linked lines names files are = go (units_or_first files are names)
+  where
+    go : ((fs : List (Facts Text)) × AreUnits (map files names) fs) ⊎ ((first : List ℕ) × FirstNoUnit names (map files names) first)
+        → (o : Outcome) × UnitsGive lines names (map files names) o
+    go (inr first) = (_, gives_no_unit first.0 first.1)
+    go (inl units) = (_, gives_units units.0 units.1)
+
+some_ran : GoalsAreDecided → (budget : ℕ) (goal : List ℕ) (names : List (List ℕ)) (files : List ℕ → List ℕ) → ((n : List ℕ) → AreBytes (files n))
+    → (o : Outcome) × RunGives names (map files names) budget goal o
+some_ran decided budget goal names files are = go (units_or_first files are names)
+  where
+    go : ((fs : List (Facts Text)) × AreUnits (map files names) fs) ⊎ ((first : List ℕ) × FirstNoUnit names (map files names) first)
+        → (o : Outcome) × RunGives names (map files names) budget goal o
+    go (inr first) = (_, run_no_unit first.0 first.1)
+    go (inl units) = some_run decided names (map files names) budget goal units.0 units.1
+
+pub some_outcome : GoalsAreDecided → SomeOutcome
+some_outcome decided None files are = (usage, refl)
+some_outcome decided (Some (Prepare out text known)) files are = some_prepared text known files are
+some_outcome decided (Some (Link units)) files are = some_linked link_lines units files are
+some_outcome decided (Some (Run budget goal units)) files are = some_ran decided budget goal units files are
+some_outcome decided (Some (All budget goal texts)) files are = some_all decided texts (map files texts) budget goal
+some_outcome decided (Some (Show units)) files are = some_linked show_lines units files are
+some_outcome decided (Some (Grow count budget)) files are = some_grown decided count budget

@@ -1,5 +1,5 @@
 -- Files that are units, and what the command `prepare` makes of them.
-use Rattle.std.proofs.Common.{arith, inr, inl, ◌≡◌, ℕ, zero, suc, map, ◌+◌, ◌<◌, ◌≤◌, List, [], ◌∷◌, ◌++◌, take, length, get_or, Result, Ok, Err, IfOk, Option, Some, None, refl, sym, ap, ◌∙◌, subst}
+use Rattle.std.proofs.Common.{arith, inr, inl, ◌≡◌, ℕ, zero, suc, map, ◌+◌, ◌<◌, ◌≤◌, List, [], ◌∷◌, ◌++◌, take, length, get_or, Result, Ok, Err, IfOk, Some, None, refl, sym, ap, ◌∙◌, subst}
 use Rattle.std.proofs.lemmas.Grind.{flat_map-append}
 use Rattle.std.proofs.lemmas.List.{take_more, append-nil, length-map}
 use Rattle.unit_model.specs.Facts.{Facts, What as WhatOf, exports, reexports_all, reexports, has_modes, declares, imports_all, imports, clause, Entry as EntryOf, Section as SectionOf, what_by, entry_by, section_by}
@@ -26,7 +26,7 @@ use Rattle.plmod.specs.Prepares.{AreUnits, no_files, one_more, FirstNoUnit, here
 use Rattle.plmod.specs.Gathering.{UnitGives, TextGives, fault, made}
 
 -- one more unit
-units_push : (contents : List (List ℕ)) (fs : List (Facts Text)) (bytes : List ℕ) (f : Facts Text) → AreUnits contents fs → IsUnit f bytes
+pub units_push : (contents : List (List ℕ)) (fs : List (Facts Text)) (bytes : List ℕ) (f : Facts Text) → AreUnits contents fs → IsUnit f bytes
     → AreUnits (contents ++ bytes ∷ []) (fs ++ f ∷ [])
 units_push [] [] bytes f no_files u = one_more u no_files
 units_push [] (g ∷ gs) bytes f are u = elim are [ ]

@@ -1,9 +1,9 @@
 -- What the command `prepare` promises once the text has been read.
-use Rattle.std.specs.Prelude.{◌≡◌, ◌≢◌, ℕ, ◌≤◌, ◌⊎◌, List, Some}
+use Rattle.std.specs.Prelude.{◌≡◌, ◌≢◌, ℕ, ◌⊎◌, List, Some}
 use Rattle.std.specs.Io.KnownBytes.{Keeps}
-use Rattle.plm_io.specs.Causes.{Rose, AppendsFront}
+use Rattle.plm_io.specs.Causes.{Rose}
 use Rattle.plmod.specs.declared.status.Status.{Status}
-use Rattle.plmod.specs.declared.status.Status.TheVariants.{Usage, ReadFault, WriteFault, NotBuilt, NoMemory}
+use Rattle.plmod.specs.declared.status.Status.TheVariants.{Usage, ReadFault, WriteFault, NoMemory}
 use Rattle.plmod.specs.Outcome.{Outcome}
 use Rattle.plmod.specs.Prepares.{PrepareGives}
 use Rattle.plmod.specs.Fetched.{AreUnder}
@@ -22,7 +22,6 @@ pub record IsCarriedOut (unit name text : List ℕ) (known : List (List ℕ)) (s
   pub others : KeepsOthers (Some unit) a.file a.file_after
   pub read : status ≢ ReadFault
   pub used : status ≢ Usage
-  pub built : status ≢ NotBuilt
 
 -- a known file could not be read, or memory ran out, before anything was put or written
 pub record IsStopped (known : List (List ℕ)) (status : Status) (a : Around) : Type 0 where

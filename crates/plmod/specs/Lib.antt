@@ -1,9 +1,16 @@
 pub mod Words
 pub mod Outcome
 pub mod Prepares
+pub mod Counting
+pub mod Collecting
+pub mod Links
+pub mod Growing
+pub mod Runs
+pub mod Together
 pub mod Comes
 pub mod Meets
 pub mod Fetched
 pub mod MadeOutcome
+pub mod Telling
 pub mod Gathering
 pub mod Knowing

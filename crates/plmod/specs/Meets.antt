@@ -3,7 +3,7 @@ use Rattle.std.specs.Prelude.{◌≡◌, ◌≢◌, ℕ, ◌≤◌, ◌⊎◌, L
 use Rattle.std.specs.Io.KnownBytes.{Appends, Keeps}
 use Rattle.plm_io.specs.Causes.{Rose, AppendsFront}
 use Rattle.plmod.specs.declared.status.Status.{Status}
-use Rattle.plmod.specs.declared.status.Status.TheVariants.{Done, Usage, PrepFault, NotUnit, Spent, ReadFault, WriteFault, NoMemory, NotBuilt}
+use Rattle.plmod.specs.declared.status.Status.TheVariants.{Done, Usage, PrepFault, NotUnit, LinkFault, GoalFault, Uncaught, Spent, ReadFault, WriteFault, NoMemory}
 use Rattle.plmod.specs.Words.{Order, read_names, out_name}
 use Rattle.plmod.specs.Outcome.{Outcome}
 use Rattle.plmod.specs.Comes.{Comes}
@@ -29,8 +29,10 @@ Answers Done want bytes old new = (want ≡ Done) × Appends old new bytes
 Answers Usage want bytes old new = (want ≡ Usage) × Appends old new bytes
 Answers PrepFault want bytes old new = (want ≡ PrepFault) × Appends old new bytes
 Answers NotUnit want bytes old new = (want ≡ NotUnit) × Appends old new bytes
+Answers LinkFault want bytes old new = (want ≡ LinkFault) × Appends old new bytes
+Answers GoalFault want bytes old new = (want ≡ GoalFault) × Appends old new bytes
+Answers Uncaught want bytes old new = (want ≡ Uncaught) × Appends old new bytes
 Answers Spent want bytes old new = (want ≡ Spent) × Appends old new bytes
-Answers NotBuilt want bytes old new = (want ≡ NotBuilt) × Appends old new bytes
 
 abbrev pub Gives : Status → Outcome → Option (List ℕ) → Option (List ℕ) → Type 0
 Gives status out old new = Answers status out.status out.bytes old new
@@ -44,8 +46,10 @@ IsWhole Done = Unit {0}
 IsWhole Usage = Unit {0}
 IsWhole PrepFault = Unit {0}
 IsWhole NotUnit = Unit {0}
+IsWhole LinkFault = Unit {0}
+IsWhole GoalFault = Unit {0}
+IsWhole Uncaught = Unit {0}
 IsWhole Spent = Unit {0}
-IsWhole NotBuilt = Unit {0}
 
 -- the status of words that are no command, where their line could be written
 abbrev pub IsUsage : Status → Type 0
@@ -107,4 +111,3 @@ pub record Meets (order : Option Order) (status : Status) (a : Around) : Type 0 
   -- what stays
   pub others : KeepsOthers (out_name order) a.file a.file_after
   pub unread : status ≡ ReadFault → Keeps a.written a.written_after × (a.file_after ≡ a.file)
-  pub not_built : status ≡ NotBuilt → Keeps a.written a.written_after × (a.file_after ≡ a.file)

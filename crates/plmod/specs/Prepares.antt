@@ -1,7 +1,6 @@
 -- What the command `prepare` writes, puts and answers.
-use Rattle.std.specs.Prelude.{◌≡◌, ℕ, ◌+◌, ◌<◌, ◌≤◌, List, [], ◌∷◌, length, Some, None}
+use Rattle.std.specs.Prelude.{ℕ, ◌+◌, ◌<◌, ◌≤◌, List, [], ◌∷◌, length, Some}
 use Rattle.std.specs.List.{flat_map}
-use Rattle.pl_terms.specs.Trees.{Tree}
 use Rattle.unit_model.specs.Facts.{What, clause, Entry, Section, Facts}
 use Rattle.unit_model.specs.Directives.{Text}
 use Rattle.unit_model.specs.Preparing.{Interface}
@@ -10,9 +9,8 @@ use Rattle.unit_model.specs.Encoding.{encoding}
 use Rattle.unit_model.specs.Validity.{IsUnit}
 use Rattle.preparing_model.specs.Known.{interfaces_of}
 use Rattle.prep_report.specs.Lines.{fault_text, not_unit_text, prepared_text}
-use Rattle.plmod.specs.declared.status.Status.{Status}
 use Rattle.plmod.specs.declared.status.Status.TheVariants.{Done, PrepFault, NotUnit}
-use Rattle.plmod.specs.Outcome.{Outcome}
+use Rattle.plmod.specs.Outcome.{Outcome, told}
 
 -- the contents of files are the bytes of units with these facts, in order
 pub data AreUnits : List (List ℕ) → List (Facts Text) → Type 0 where
@@ -42,10 +40,6 @@ clauses_in_entries (e ∷ es) = clauses_in_entry e.what + clauses_in_entries es
 abbrev pub clause_count : {N : Type 0} → List (Section N) → ℕ
 clause_count [] = 0
 clause_count (s ∷ ss) = clauses_in_entries s.entries + clause_count ss
-
--- a line alone
-abbrev pub told : List ℕ → Status → Outcome
-told line status = record { bytes = line; status = status; stored = None }
 
 -- a fault of preparing: P, its number, and its byte in the file
 abbrev pub faulty : List ℕ → ℕ → ℕ → Outcome

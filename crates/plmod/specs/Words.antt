@@ -73,11 +73,15 @@ command_of (word ∷ rest) =
     else if bytes_eq word (codes "grow") then grow_of rest
     else None
 
--- the names that a command reads, in order; a form that isn't built reads none
+-- the names that a command reads, in order
 abbrev pub read_names : Option Order → List (List ℕ)
+read_names None = []
 read_names (Some (Prepare out text known)) = text ∷ known
-read_names (Some (All budget goal (text ∷ []))) = text ∷ []
-read_names _ = []
+read_names (Some (Link units)) = units
+read_names (Some (Run budget goal units)) = units
+read_names (Some (All budget goal texts)) = texts
+read_names (Some (Show units)) = units
+read_names (Some (Grow count budget)) = []
 
 -- the name that a command may put
 abbrev pub out_name : Option Order → Option (List ℕ)

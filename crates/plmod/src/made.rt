@@ -1,11 +1,10 @@
 //! What a command makes before anything is put or written.
-ghost use Rattle.std.specs.Prelude.{◌≡◌, ◌≢◌, ◌<◌, ◌≤◌, ◌⊎◌, Some, None, length, IfOk, IfSome};
+ghost use Rattle.std.specs.Prelude.{◌≡◌, ◌≢◌, ◌<◌, ◌⊎◌, Some, None, length};
 ghost use Rattle.std.specs.Io.KnownBytes.{Keeps};
 ghost use Rattle.plm_io.specs.Causes.{Rose};
-ghost use Rattle.plmod.specs.Meets.{Gives, IsWhole, HasStored, KeepsOthers};
-ghost use Rattle.plmod.specs.MadeOutcome.{outcome_of, IsReady};
+ghost use Rattle.plmod.specs.Meets.{Gives, Answers, IsWhole, HasStored, KeepsOthers};
+ghost use Rattle.plmod.specs.MadeOutcome.{outcome_of, CanBeTold, IsReady};
 
-use crate::running::put_last;
 use crate::status::Status;
 use pl_atoms::{Bytes, Name};
 use plm_io::{IoFault, Shelf, Sink};
@@ -36,7 +35,6 @@ pub fn finish<S: Shelf, O: Sink>(
     ensures others { KeepsOthers (Some name.now) (S.file shelf.old) (S.file shelf.new) }
     ensures read { result ≢ Status.ReadFault }
     ensures used { result ≢ Status.Usage }
-    ensures built { result ≢ Status.NotBuilt }
 {
     match &made.stored {
         None => put_last(alloc, made.line.as_slice(), made.status, out),
@@ -45,5 +43,36 @@ pub fn finish<S: Shelf, O: Sink>(
             Err(IoFault::Failed) => Status::WriteFault,
             Err(IoFault::NoMemory) => Status::NoMemory,
         },
+    }
+}
+
+/// Writes the lines that were made, if there are any.
+pub fn tell<O: Sink>(alloc: Global, made: &Made, out: &mut O) -> Status
+    requires { CanBeTold made.now }
+    ensures output { Gives result (outcome_of made.now) (O.written out.old) (O.written out.new) }
+    ensures write_fault { result ≡ Status.WriteFault → Rose (O.faults out.old) (O.faults out.new) }
+    ensures read { result ≢ Status.ReadFault }
+    ensures used { result ≢ Status.Usage }
+{
+    let line = made.line.as_slice();
+    if line.is_empty() {
+        return made.status;
+    }
+    put_last(alloc, line, made.status, out)
+}
+
+/// Writes the last line of a command, and answers this status.
+pub fn put_last<O: Sink>(alloc: Global, line: &[u8], status: Status, out: &mut O) -> Status
+    requires some { 0 < length line.now }
+    requires whole { IsWhole status }
+    ensures output { Answers result status line.now (O.written out.old) (O.written out.new) }
+    ensures write_fault { result ≡ Status.WriteFault → Rose (O.faults out.old) (O.faults out.new) }
+    ensures read { result ≢ Status.ReadFault }
+    ensures used { status ≢ Status.Usage → result ≢ Status.Usage }
+{
+    match out.put(alloc, line) {
+        Ok(()) => status,
+        Err(IoFault::Failed) => Status::WriteFault,
+        Err(IoFault::NoMemory) => Status::NoMemory,
     }
 }

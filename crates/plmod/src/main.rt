@@ -1,12 +1,16 @@
 //! Runs goals over Prolog texts.
 #![tactic(auto)]
 
+mod counting;
 mod fetch;
+mod growing;
 mod laws;
 mod made;
 mod preparing;
 mod running;
 mod status;
+mod telling;
+mod together;
 mod top;
 mod words;
 

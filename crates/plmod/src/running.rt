@@ -1,114 +1,273 @@
-//! Running a goal over the contents of files.
-ghost use Rattle.std.specs.Prelude.{◌≡◌, ◌≢◌, ◌<◌, length};
-ghost use Rattle.std.specs.Io.KnownBytes.{Keeps};
+//! The commands `run` and `all`.
+ghost use Rattle.std.specs.Prelude.{◌≡◌, ◌≢◌, ◌≤◌, List, Some, IfOk, length, map, get_or, []};
+ghost use Rattle.std.specs.List.{All};
 ghost use Rattle.plm_io.specs.Causes.{Rose};
-ghost use Rattle.plmod.specs.Outcome.{all_outcome, text_outcome, run_outcome, end_line, status_of};
-ghost use Rattle.plmod.specs.Meets.{Gives, Answers, IsWhole};
-ghost use Rattle.search_model.specs.Closed.{is_closed as is_closed_of};
-ghost use Rattle.std.specs.Prelude.{IsTrue};
+ghost use Rattle.unit_model.specs.Facts.{Facts};
+ghost use Rattle.unit_model.specs.Directives.{Text};
+ghost use Rattle.unit_format.specs.Views.{unit_facts};
+ghost use Rattle.link_model.specs.Faults.{first_link};
+ghost use Rattle.mod_linker.specs.Linking.{IsLinkOf};
+ghost use Rattle.plmod.specs.Words.{Run, All as AllOf};
+ghost use Rattle.plmod.specs.Outcome.{Outcome, told};
+ghost use Rattle.pl_ops.specs.Standard.{standard};
+ghost use Rattle.pl_ops.specs.Tables.{operator};
+ghost use Rattle.prep_report.specs.Lines.{end_text};
+ghost use Rattle.pl_machine.specs.Machine.{IsMachine};
+ghost use Rattle.goal_runs.specs.Ends.{manner};
+ghost use Rattle.plmod.specs.declared.status.Status.TheVariants.{GoalFault};
+ghost use Rattle.plmod.specs.Prepares.{faulty};
+ghost use Rattle.plmod.specs.Runs.{RunGives, AllGives, LinkedGives, GoalGives, goal_line, status_in};
+ghost use Rattle.plmod.specs.MadeOutcome.{outcome_of, CanBeTold};
+ghost use Rattle.plmod.specs.Meets.{Meets, Gives};
 
+use crate::fetch::{fetch_all, read_status};
+use crate::made::{Made, put_last, tell};
 use crate::status::Status;
-use pl_atoms::Bytes;
-use pl_machine::{RunFault, SimpleEnd, run_simple};
-use pl_reader::{SimpleFault, is_closed, read_simple, read_simple_goal};
-use plm_io::{IoFault, Sink};
-use search_model::Simple;
+use crate::telling::{Decoded, decode_all, faulty_link, no_unit, word_of};
+use crate::together::{WholeFault, whole};
+use goal_runs::{Finished, GoalEnd, run_goal};
+use goal_text::goals_are_decided;
+use mod_linker::{LinkFault, link};
+use needs_laws::texts_are_one_whole;
+use pl_atoms::{Bytes, Name, NoMemory};
+use pl_machine::{End, RunFault, Show};
+use pl_store::Program;
+use plm_io::{Shelf, Sink};
+use prep_report::{end_line, fault_line};
 use std::alloc::Global;
+use unit_format::Unit;
 
-/// Runs a goal over texts, of which one alone is built.
-pub fn run_all<O: Sink>(
+/// The command `run`: runs a goal over units, with a budget of steps.
+pub fn run_units<S: Shelf, O: Sink>(
+    alloc: Global,
+    budget: u64,
+    goal: &Name,
+    units: &[Name],
+    shelf: &mut S,
+    out: &mut O,
+) -> Status
+    ensures meets { Meets (Some (Run budget goal.now units.now)) result (record {
+      file = S.file shelf.old;
+      file_after = S.file shelf.new;
+      fetches = S.fetch_faults shelf.old;
+      fetches_after = S.fetch_faults shelf.new;
+      puts = S.put_faults shelf.old;
+      puts_after = S.put_faults shelf.new;
+      written = O.written out.old;
+      written_after = O.written out.new;
+      faults = O.faults out.old;
+      faults_after = O.faults out.new;
+    }) }
+{
+    match fetch_all(alloc, shelf, units) {
+        Ok(contents) => run_contents(
+            alloc,
+            budget,
+            goal.as_bytes(),
+            units,
+            contents.as_slice(),
+            out,
+        ),
+        Err(fault) => read_status(fault),
+    }
+}
+
+/// The command `all`: runs a goal over texts, with a budget of steps.
+pub fn run_texts<S: Shelf, O: Sink>(
+    alloc: Global,
+    budget: u64,
+    goal: &Name,
+    texts: &[Name],
+    shelf: &mut S,
+    out: &mut O,
+) -> Status
+    ensures meets { Meets (Some (AllOf budget goal.now texts.now)) result (record {
+      file = S.file shelf.old;
+      file_after = S.file shelf.new;
+      fetches = S.fetch_faults shelf.old;
+      fetches_after = S.fetch_faults shelf.new;
+      puts = S.put_faults shelf.old;
+      puts_after = S.put_faults shelf.new;
+      written = O.written out.old;
+      written_after = O.written out.new;
+      faults = O.faults out.old;
+      faults_after = O.faults out.new;
+    }) }
+{
+    match fetch_all(alloc, shelf, texts) {
+        Ok(contents) => run_whole(
+            alloc,
+            budget,
+            goal.as_bytes(),
+            texts,
+            contents.as_slice(),
+            out,
+        ),
+        Err(fault) => read_status(fault),
+    }
+}
+
+// Runs a goal over files of these names, which are to be units.
+fn run_contents<O: Sink>(
     alloc: Global,
     budget: u64,
     goal: &[u8],
+    names: &[Name],
     contents: &[Bytes],
     out: &mut O,
 ) -> Status
-    ensures output { Gives result (all_outcome budget goal.now contents.now) (O.written out.old) (O.written out.new) }
+    requires { length names.now ≡ length contents.now }
+    ensures output { (o : Outcome) → RunGives names.now contents.now budget goal.now o → Gives result o (O.written out.old) (O.written out.new) }
     ensures write_fault { result ≡ Status.WriteFault → Rose (O.faults out.old) (O.faults out.new) }
     ensures read { result ≢ Status.ReadFault }
     ensures used { result ≢ Status.Usage }
-    ensures not_built { result ≡ Status.NotBuilt → Keeps (O.written out.old) (O.written out.new) }
 {
-    match contents {
-        [text] => run_text(alloc, budget, goal, text.as_slice(), out),
-        _ => Status::NotBuilt,
+    match decode_all(alloc, contents) {
+        Ok(Decoded::NoUnit(place)) => told_or_not(alloc, no_unit(alloc, names, place), out),
+        Ok(Decoded::All(units)) => { run_linked(alloc, budget, goal, names, units.as_slice(), out) }
+        Err(NoMemory) => Status::NoMemory,
     }
 }
 
-/// Runs a goal over a text.
-#[tactic(auto, unfolding(crate::specs::Outcome::text_outcome))]
-fn run_text<O: Sink>(alloc: Global, budget: u64, goal: &[u8], text: &[u8], out: &mut O) -> Status
-    ensures output { Gives result (text_outcome budget goal.now text.now) (O.written out.old) (O.written out.new) }
-    ensures write_fault { result ≡ Status.WriteFault → Rose (O.faults out.old) (O.faults out.new) }
-    ensures read { result ≢ Status.ReadFault }
-    ensures used { result ≢ Status.Usage }
-    ensures not_built { result ≡ Status.NotBuilt → Keeps (O.written out.old) (O.written out.new) }
-{
-    let program = match read_simple(alloc, text) {
-        Ok(program) => program,
-        Err(SimpleFault::NotSimple) => return Status::NotBuilt,
-        Err(SimpleFault::NoMemory) => return Status::NoMemory,
-    };
-    let goal = match read_simple_goal(alloc, goal) {
-        Ok(goal) => goal,
-        Err(SimpleFault::NotSimple) => return Status::NotBuilt,
-        Err(SimpleFault::NoMemory) => return Status::NoMemory,
-    };
-    if !is_closed(&program, goal.as_slice()) {
-        return Status::NotBuilt;
-    }
-    run_program(alloc, &program, goal.as_slice(), budget, out)
-}
-
-/// Runs a goal, and writes its events and its end.
-fn run_program<O: Sink>(
+// Runs a goal over units from files of these names.
+fn run_linked<O: Sink>(
     alloc: Global,
-    program: &Simple,
-    goal: &[u8],
     budget: u64,
+    goal: &[u8],
+    names: &[Name],
+    units: &[Unit],
     out: &mut O,
 ) -> Status
-    requires { IsTrue (is_closed_of program.now goal.now) }
-    ensures output { Gives result (run_outcome program.now goal.now budget) (O.written out.old) (O.written out.new) }
+    ensures output { (o : Outcome) → LinkedGives names.now (map unit_facts units.now) budget goal.now (first_link (map unit_facts units.now)) o → Gives result o (O.written out.old) (O.written out.new) }
     ensures write_fault { result ≡ Status.WriteFault → Rose (O.faults out.old) (O.faults out.new) }
     ensures read { result ≢ Status.ReadFault }
     ensures used { result ≢ Status.Usage }
-    ensures built { result ≢ Status.NotBuilt }
 {
-    match run_simple(alloc, program, goal, budget, out) {
-        Ok(end) => finish(alloc, end, out),
+    match link(alloc, units) {
+        Ok(program) => run_program(alloc, program, budget, goal, out),
+        Err(LinkFault::Fault { number, unit, byte }) => {
+            told_or_not(alloc, faulty_link(alloc, names, number, unit, byte), out)
+        }
+        Err(LinkFault::NoMemory) => Status::NoMemory,
+    }
+}
+
+// Runs a goal over texts from files of these names.
+fn run_whole<O: Sink>(
+    alloc: Global,
+    budget: u64,
+    goal: &[u8],
+    names: &[Name],
+    contents: &[Bytes],
+    out: &mut O,
+) -> Status
+    requires { All (λ t. length t ≤ 67108864) contents.now }
+    ensures output { (o : Outcome) → AllGives names.now contents.now budget goal.now o → Gives result o (O.written out.old) (O.written out.new) }
+    ensures write_fault { result ≡ Status.WriteFault → Rose (O.faults out.old) (O.faults out.new) }
+    ensures read { result ≢ Status.ReadFault }
+    ensures used { result ≢ Status.Usage }
+{
+    texts_are_one_whole();
+    match whole(alloc, contents) {
+        Ok(program) => run_program(alloc, program, budget, goal, out),
+        Err(WholeFault::Prep { number, text, byte }) => {
+            told_or_not(alloc, faulty_text(alloc, names, number, text, byte), out)
+        }
+        Err(WholeFault::Link { number, unit, byte }) => {
+            told_or_not(alloc, faulty_link(alloc, names, number, unit, byte), out)
+        }
+        Err(WholeFault::NoMemory) => Status::NoMemory,
+    }
+}
+
+/// The line of a text's fault, with the name of its file.
+pub fn faulty_text(
+    alloc: Global,
+    names: &[Name],
+    number: u8,
+    text: usize,
+    byte: usize,
+) -> Result<Made, NoMemory>
+    ensures gives { IfOk result (λ made. outcome_of made ≡ faulty (get_or names.now text []) number byte) }
+    ensures ready { IfOk result CanBeTold }
+{
+    Ok(Made {
+        line: fault_line(alloc, b'P', number, word_of(names, text), byte)?,
+        status: Status::PrepFault,
+        stored: None,
+    })
+}
+
+/// Writes what was made, unless memory ran out.
+pub fn told_or_not<O: Sink>(alloc: Global, made: Result<Made, NoMemory>, out: &mut O) -> Status
+    requires { IfOk made CanBeTold }
+    ensures output { (o : Outcome) → IfOk made (λ m. outcome_of m ≡ o) → Gives result o (O.written out.old) (O.written out.new) }
+    ensures write_fault { result ≡ Status.WriteFault → Rose (O.faults out.old) (O.faults out.new) }
+    ensures read { result ≢ Status.ReadFault }
+    ensures used { result ≢ Status.Usage }
+{
+    match made {
+        Ok(made) => tell(alloc, &made, out),
+        Err(NoMemory) => Status::NoMemory,
+    }
+}
+
+// Runs a goal over a linked program, and writes its events and its end.
+fn run_program<O: Sink>(
+    alloc: Global,
+    program: Program,
+    budget: u64,
+    goal: &[u8],
+    out: &mut O,
+) -> Status
+    ensures output { (us : List (Facts Text)) (o : Outcome) → IsLinkOf us program → GoalGives us budget goal.now o → Gives result o (O.written out.old) (O.written out.new) }
+    ensures write_fault { result ≡ Status.WriteFault → Rose (O.faults out.old) (O.faults out.new) }
+    ensures read { result ≢ Status.ReadFault }
+    ensures used { result ≢ Status.Usage }
+{
+    goals_are_decided();
+    match run_goal(alloc, program, budget, goal, Show::Lines, out) {
+        Ok(GoalEnd::NoGoal { number, byte }) => {
+            told_or_not(alloc, faulty_goal(alloc, number, byte), out)
+        }
+        Ok(GoalEnd::Ended(finished)) => told_or_not(alloc, end_of(alloc, &finished), out),
         Err(RunFault::WriteFault) => Status::WriteFault,
         Err(RunFault::NoMemory) => Status::NoMemory,
     }
 }
 
-/// Writes the line of an end.
-fn finish<O: Sink>(alloc: Global, end: SimpleEnd, out: &mut O) -> Status
-    ensures output { Answers result (status_of end) (end_line end) (O.written out.old) (O.written out.new) }
-    ensures write_fault { result ≡ Status.WriteFault → Rose (O.faults out.old) (O.faults out.new) }
-    ensures read { result ≢ Status.ReadFault }
-    ensures used { result ≢ Status.Usage }
-    ensures built { result ≢ Status.NotBuilt }
+/// The line of a goal's fault.
+pub fn faulty_goal(alloc: Global, number: u8, byte: usize) -> Result<Made, NoMemory>
+    ensures gives { IfOk result (λ made. outcome_of made ≡ told (goal_line number byte) GoalFault) }
+    ensures ready { IfOk result CanBeTold }
 {
-    match end {
-        SimpleEnd::Exhausted => put_last(alloc, b"no more\n", Status::Done, out),
-        SimpleEnd::Spent => put_last(alloc, b"budget spent\n", Status::Spent, out),
-    }
+    Ok(Made {
+        line: fault_line(alloc, b'P', number, b"goal", byte)?,
+        status: Status::GoalFault,
+        stored: None,
+    })
 }
 
-/// Writes the last line of a command, and answers this status.
-pub fn put_last<O: Sink>(alloc: Global, line: &[u8], status: Status, out: &mut O) -> Status
-    requires some { 0 < length line.now }
-    requires whole { IsWhole status }
-    ensures output { Answers result status line.now (O.written out.old) (O.written out.new) }
-    ensures write_fault { result ≡ Status.WriteFault → Rose (O.faults out.old) (O.faults out.new) }
-    ensures read { result ≢ Status.ReadFault }
-    ensures used { status ≢ Status.Usage → result ≢ Status.Usage }
-    ensures built { status ≢ Status.NotBuilt → result ≢ Status.NotBuilt }
+/// The line of a run's end.
+pub fn end_of(alloc: Global, finished: &Finished) -> Result<Made, NoMemory>
+    requires { IsMachine finished.now.machine }
+    ensures gives { IfOk result (λ made. outcome_of made ≡ told (end_text (operator standard) finished.now.machine.library.names finished.now.end) (status_in (manner finished.now.end))) }
+    ensures ready { IfOk result CanBeTold }
 {
-    match out.put(alloc, line) {
-        Ok(()) => status,
-        Err(IoFault::Failed) => Status::WriteFault,
-        Err(IoFault::NoMemory) => Status::NoMemory,
+    let machine = &finished.machine;
+    Ok(Made {
+        line: end_line(alloc, &finished.end, machine.names(), machine.table())?,
+        status: status_after(&finished.end),
+        stored: None,
+    })
+}
+
+fn status_after(end: &End) -> Status
+    ensures { result ≡ status_in (manner end.now) }
+{
+    match end {
+        End::Exhausted | End::Halted(_) => Status::Done,
+        End::Uncaught(_) => Status::Uncaught,
+        End::Spent => Status::Spent,
     }
 }

@@ -11,6 +11,12 @@ pub enum Status {
     PrepFault = 2,
     /// A file that is to be a unit is none.
     NotUnit = 3,
+    /// The units together have a link fault.
+    LinkFault = 4,
+    /// The goal is not one term.
+    GoalFault = 5,
+    /// The run ended with an error that nothing caught.
+    Uncaught = 6,
     /// The run needed a step more than its budget.
     Spent = 7,
     /// A file could not be read.
@@ -19,6 +25,4 @@ pub enum Status {
     WriteFault = 9,
     /// A growth was refused.
     NoMemory = 10,
-    /// The words, a text or the goal have a form that isn't built yet.
-    NotBuilt = 11,
 }

@@ -56,8 +56,21 @@ fn runs_simple_texts(rt: HostRuntime) -> Result<(), Fail> {
         ("p.", "1", "p.", "true ;\nno more\n", Status::Done),
         (twice, "3", "a.", "true ;\nbudget spent\n", Status::Spent),
         (twice, "4", "a.", "true ;\ntrue ;\nno more\n", Status::Done),
-        ("", "9", "a.", "", Status::NotBuilt),
-        ("a :- X.", "9", "a.", "", Status::NotBuilt),
+        ("", "9", "throw(a).", "uncaught: a\n", Status::Uncaught),
+        (
+            "p.",
+            "9",
+            "p q.",
+            "fault P5 in goal at byte 0\n",
+            Status::GoalFault,
+        ),
+        (
+            "p q.",
+            "9",
+            "p.",
+            "fault P5 in t at byte 0\n",
+            Status::PrepFault,
+        ),
         ("p.", "x", "p.", USAGE, Status::Usage),
         ("p.", "18446744073709551616", "p.", USAGE, Status::Usage),
         ("p :- p.", "1000", "p.", "budget spent\n", Status::Spent),
@@ -124,7 +137,7 @@ fn quiet_ones_serve(rt: HostRuntime) -> Result<(), Fail> {
     let mut shelf = QuietShelf::new(rt.alloc());
     let mut out = QuietSink::new(rt.alloc());
     let status = plmod_quiet(rt.alloc(), &words, &mut shelf, &mut out);
-    assert_eq!(rt; status, Status::NotBuilt);
+    assert_eq!(rt; status, Status::Uncaught);
     Ok(())
 }
 
@@ -274,6 +287,116 @@ fn a_failed_put_of_a_unit_is_told(rt: HostRuntime) -> Result<(), Fail> {
             assert_eq!(rt; ended, Status::WriteFault);
         }
         Err(_) => assert!(rt; false),
+    }
+    Ok(())
+}
+
+/// A unit, the file of its text, and the text.
+type Source = (&'static str, &'static str, &'static str);
+
+/// A linking: what is prepared, each where those before it are known, the command, what is printed, and the status.
+type Linking = (&'static [Source], &'static str, &'static str, Status);
+
+const INTERFACE: &str =
+    ":- module(m). :- export(p/0). :- end_module(m). :- body(m). p. q. :- end_body(m).";
+
+const LINKINGS: [Linking; 9] = [
+    (
+        &[("u", "t", "a. a. b(1).")],
+        "show",
+        "user:a/0 from user\nuser:b/1 from user\n",
+        Status::Done,
+    ),
+    (
+        &[("u", "t", "a. a. b(1).")],
+        "link",
+        "linked 1 modules 2 procedures\n",
+        Status::Done,
+    ),
+    (&[("u", "t", "")], "show", "", Status::Done),
+    (
+        &[("u", "t", INTERFACE), ("v", "x", ":- import(m).")],
+        "show",
+        "m:p/0 from m\nm:q/0 from m\nuser:p/0 from m\n",
+        Status::Done,
+    ),
+    (
+        &[("u", "t", INTERFACE), ("v", "x", ":- import(m).")],
+        "link",
+        "linked 2 modules 2 procedures\n",
+        Status::Done,
+    ),
+    (
+        &[("u", "t", INTERFACE), ("v", "x", ":- import(m, [q/0]).")],
+        "link",
+        "fault L6 in v at byte 0\n",
+        Status::LinkFault,
+    ),
+    (
+        &[("u", "t", INTERFACE), ("v", "x", ":- import(m). p.")],
+        "show",
+        "fault L7 in v at byte 14\n",
+        Status::LinkFault,
+    ),
+    (
+        &[("u", "t", "p."), ("v", "x", "p.")],
+        "link",
+        "fault L8 in v at byte 0\n",
+        Status::LinkFault,
+    ),
+    (
+        &[("u", "t", "p."), ("v", "x", "p q.")],
+        "link",
+        "",
+        Status::ReadFault,
+    ),
+];
+
+/// Prepares a text, where these are known.
+fn prepare_source(
+    alloc: Global,
+    shelf: &mut MemShelf,
+    source: Source,
+    known: &[Source],
+) -> Result<(), NoMemory> {
+    let (unit, name, text) = source;
+    add_short(alloc, shelf, name, text.as_bytes())?;
+    let mut words = Words::new(alloc);
+    for word in ["prepare", unit, name] {
+        words.push(Name::of(alloc, word)?)?;
+    }
+    for (other, _, _) in known {
+        words.push(Name::of(alloc, other)?)?;
+    }
+    let mut out = MemSink::new(alloc, CallList::new(alloc));
+    let _status = plmod(alloc, &words, shelf, &mut out);
+    Ok(())
+}
+
+/// What a command gives over the units of these texts.
+fn linked(alloc: Global, sources: &[Source], command: &str) -> Result<(MemSink, Status), NoMemory> {
+    let mut shelf = MemShelf::new(alloc, CallList::new(alloc));
+    let mut words = Words::new(alloc);
+    words.push(Name::of(alloc, command)?)?;
+    for (number, source) in sources.iter().enumerate() {
+        prepare_source(alloc, &mut shelf, *source, &sources[..number])?;
+        words.push(Name::of(alloc, source.0)?)?;
+    }
+    let mut out = MemSink::new(alloc, CallList::new(alloc));
+    let status = plmod(alloc, &words, &mut shelf, &mut out);
+    Ok((out, status))
+}
+
+#[test]
+fn links_units(rt: HostRuntime) -> Result<(), Fail> {
+    for (sources, command, printed, status) in LINKINGS {
+        match linked(rt.alloc(), sources, command) {
+            Ok((out, ended)) => {
+                assert_eq!(rt; out.bytes(), printed.as_bytes(), "{printed}");
+                assert_eq!(rt; ended, status, "{printed}");
+            }
+            Err(_) => assert!(rt; false),
+        }
     }
     Ok(())
 }

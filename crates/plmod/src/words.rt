@@ -1,6 +1,6 @@
 //! The words of the command line.
 ghost use Rattle.std.specs.Prelude.{◌≡◌, ◌+◌, ◌*◌, ◌^◌, ◌≤◌, ◌∷◌, IfSome, IfNone, option_map};
-ghost use Rattle.plmod.specs.Words.{Link, Run, All, Show, order_of, command_of, prepare_of, some_of, goal_of, grow_of, budget_of, count_of, number_from, if_small};
+ghost use Rattle.plmod.specs.Words.{Link, Run, All, Show, order_of, command_of, prepare_of, some_of, goal_of, grow_of, budget_of, count_of};
 
 use pl_atoms::{Items, Name};
 

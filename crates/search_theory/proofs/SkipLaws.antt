@@ -27,7 +27,7 @@ module _ (L : Language) where
 
   sane-outside : (e : ℕ) (alts : List L.Alternative) (fs : List (FrameOf L)) (p : PointOf L) → SaneAt L (Tries e alts ∷ fs) p → SaneAt L fs p
   sane-outside e alts fs (At s) h = (Falls-wider L e s.depth fs (omega (arith, h.0.0)) h.0.1, h.1, items-outside e alts fs s.items h.2)
-  sane-outside e alts fs (Over x) h = chain_falls L e fs h
+  sane-outside e alts fs (Over x) h = (chain_falls L e fs h.0, h.1)
 
   -- a node that has nothing else untried may go
   pub turn_hopeless : (p : PointOf L) (l : ℕ) (c : L.Clauses) (e : ℕ) (alts : List L.Alternative) (fs : List (FrameOf L)) → Hopeless alts → Turns L (stands L p l c (Tries e alts ∷ fs)) (stands L p l c fs)

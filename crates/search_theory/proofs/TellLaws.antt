@@ -43,13 +43,13 @@ module _ (L : Language) where
           (act.1, (subst (λ d. Falls d fs) (sym act.0) s.0.0, act.2, s.1))
 
   -- a goal that ends at once, with its output
-  pub tell_ends : (e l : ℕ) (w : L.World) (c : L.Clauses) (g : L.Goal) (rest : List (Item L.Goal)) (fs : List (FrameOf L)) (ev : List (Event L.Answer)) (x : End L.Ball) → outs_of ev ≡ ev → L.activate e g rest w c ≡ Ends ev x → Tells L ev (stands L (At (record { depth = e; items = Call g ∷ rest; world = w })) (suc l) c fs) (stands L (Over x) l c fs)
-  tell_ends e l w c g rest fs ev x o is =
+  pub tell_ends : (e l : ℕ) (w : L.World) (c : L.Clauses) (g : L.Goal) (rest : List (Item L.Goal)) (fs : List (FrameOf L)) (ev : List (Event L.Answer)) (x : End L.Ball) → outs_of ev ≡ ev → L.activate e g rest w c ≡ Ends ev x → TableSane L → Tells L ev (stands L (At (record { depth = e; items = Call g ∷ rest; world = w })) (suc l) c fs) (stands L (Over x) l c fs)
+  tell_ends e l w c g rest fs ev x o is table =
       let same = call_move L e w c fs g rest l
       ∙ ap (after_call L l c fs) is
       ∙ ap (λ h. prepend L h (value L (Over x) l c (emit L ev fs))) (heard-output ev fs o)
       ∙ ap (λ k. prepend L ev (value L (Over x) l c k)) (emit-output ev fs o) in
-      record { value = λ s. same; sane = λ s. (chain_of L fs s.1, s.1); left = omega arith; lighter = λ e. absurd (omega (arith, e)) }
+      record { value = λ s. same; sane = λ s. ((chain_of L fs s.1, subst (ActivationSane L e fs) is (table e g rest w c fs s.0.0 s.0.1 s.0.2.0 s.0.2.1)), s.1); left = omega arith; lighter = λ e. absurd (omega (arith, e)) }
 
   -- ---- frames with more answers
 
@@ -84,7 +84,7 @@ module _ (L : Language) where
 
     SaneAt-emit : (fs : List (FrameOf L)) (p : PointOf L) → SaneAt L fs p → SaneAt L (emit L ev fs) p
     SaneAt-emit fs (At s) h = StateOk-emit fs s h
-    SaneAt-emit fs (Over x) h = Chain-emit fs h
+    SaneAt-emit fs (Over x) h = (Chain-emit fs h.0, h.1)
 
     AttemptSane-emit : (e : ℕ) (fs : List (FrameOf L)) (o : Option (StateOf L × L.Clauses)) → AttemptSane L e fs o → AttemptSane L e (emit L ev fs) o
     AttemptSane-emit e fs None h = tt
@@ -114,7 +114,7 @@ module _ (L : Language) where
   pub tell_answer : (e l : ℕ) (w : L.World) (c : L.Clauses) (fs : List (FrameOf L)) → Tells L (heard L (Ans (L.answer_of w) ∷ []) fs) (stands L (At (record { depth = e; items = []; world = w })) l c fs) (stands L (Over Failed) l c (emit L (Ans (L.answer_of w) ∷ []) fs))
   tell_answer e l w c fs = record {
     value = λ s. answer_move L e w c fs l;
-    sane = λ s. (Chain-emit (Ans (L.answer_of w) ∷ []) fs (chain_falls L e fs s.0.0), FramesSane-emit (Ans (L.answer_of w) ∷ []) fs s.1);
+    sane = λ s. ((Chain-emit (Ans (L.answer_of w) ∷ []) fs (chain_falls L e fs s.0.0), tt), FramesSane-emit (Ans (L.answer_of w) ∷ []) fs s.1);
     left = omega arith;
     lighter = λ i. omega (arith, untried-emit (Ans (L.answer_of w) ∷ []) fs);
   }

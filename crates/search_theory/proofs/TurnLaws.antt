@@ -179,10 +179,10 @@ module _ (L : Language) where
 
   -- no alternative is left
   pub turn_done : (e l : ℕ) (c : L.Clauses) (fs : List (FrameOf L)) → Turns L (stands (Over Failed) l c (Tries e [] ∷ fs)) (stands (Over Failed) l c fs)
-  turn_done e l c fs = record { value = λ s. refl; sane = λ s. (chain_falls e fs s.1.0, s.1.2); left = omega arith; lighter = λ e. omega arith }
+  turn_done e l c fs = record { value = λ s. refl; sane = λ s. ((chain_falls e fs s.1.0, tt), s.1.2); left = omega arith; lighter = λ e. omega arith }
 
   pub turn_fail : (e l : ℕ) (w : L.World) (c : L.Clauses) (rest : List (Item L.Goal)) (fs : List (FrameOf L)) → Turns L (stands (At (record { depth = e; items = Fail ∷ rest; world = w })) l c fs) (stands (Over Failed) l c fs)
-  turn_fail e l w c rest fs = record { value = λ s. sym (fail_move L e w c fs rest l); sane = λ s. (chain_falls e fs s.0.0, s.1); left = omega arith; lighter = λ e. omega arith }
+  turn_fail e l w c rest fs = record { value = λ s. sym (fail_move L e w c fs rest l); sane = λ s. ((chain_falls e fs s.0.0, tt), s.1); left = omega arith; lighter = λ e. omega arith }
 
   Falls-below : (e d : ℕ) (fs : List (FrameOf L)) → Falls e fs → Falls e (below d fs)
   Falls-below e d [] s = tt
@@ -219,17 +219,17 @@ module _ (L : Language) where
 
   -- a catch without a ball has no further alternative
   pub turn_catch_done : (e l : ℕ) (c : L.Clauses) (rec : L.Recovery) (fs : List (FrameOf L)) → Turns L (stands (Over Failed) l c (Catches e rec ∷ fs)) (stands (Over Failed) l c fs)
-  turn_catch_done e l c rec fs = record { value = λ s. refl; sane = λ s. (chain_of fs s.1.2, s.1.2); left = omega arith; lighter = λ e. omega arith }
+  turn_catch_done e l c rec fs = record { value = λ s. refl; sane = λ s. ((chain_of fs s.1.2, tt), s.1.2); left = omega arith; lighter = λ e. omega arith }
 
   -- a ball goes past a node without a catch
   pub turn_throw_past : (ball : L.Ball) (active : List ℕ) (e l : ℕ) (c : L.Clauses) (alts : List L.Alternative) (fs : List (FrameOf L)) → Turns L (stands (Over (Thrown ball active)) l c (Tries e alts ∷ fs)) (stands (Over (Thrown ball active)) l c fs)
-  turn_throw_past ball active e l c alts fs = record { value = λ s. refl; sane = λ s. (chain_of fs s.1.2, s.1.2); left = omega arith; lighter = λ e. omega arith }
+  turn_throw_past ball active e l c alts fs = record { value = λ s. refl; sane = λ s. ((chain_of fs s.1.2, s.0.1), s.1.2); left = omega arith; lighter = λ e. omega arith }
 
   -- a catch that is not active, or does not take the ball
   pub turn_throw_on : (ball : L.Ball) (active : List ℕ) (e l : ℕ) (c : L.Clauses) (rec : L.Recovery) (fs : List (FrameOf L)) → (has active e ≡ false) ⊎ (L.recover rec ball ≡ None) → Turns L (stands (Over (Thrown ball active)) l c (Catches e rec ∷ fs)) (stands (Over (Thrown ball active)) l c fs)
   turn_throw_on ball active e l c rec fs h = record {
     value = λ s. sym (throw_move L ball active l c e rec fs ∙ passes (has active e) (L.recover rec ball) h);
-    sane = λ s. (chain_of fs s.1.2, s.1.2);
+    sane = λ s. ((chain_of fs s.1.2, s.0.1), s.1.2);
     left = omega arith;
     lighter = λ e. omega arith;
   }
@@ -257,7 +257,7 @@ module _ (L : Language) where
   pub turn_gather : (e l : ℕ) (c : L.Clauses) (acc : List L.Answer) (f : L.Gathering) (p : PointOf L) (fs : List (FrameOf L)) → L.gather f acc ≡ p → Turns L (stands (Over Failed) l c (Collects e acc f ∷ fs)) (stands p l c fs)
   turn_gather e l c acc f p fs k = record {
     value = λ s. sym (gather_move L l c e acc f fs s.1.0 ∙ ap (λ q. value L q l c (Tries e [] ∷ fs)) k ∙ drop_move L p l c e fs s.1.0);
-    sane = λ s. (subst (SaneAt L fs) k (s.1.1 acc), s.1.2);
+    sane = λ s. (subst (SaneAt L fs) k (s.1.1.1 acc), s.1.2);
     left = omega arith;
     lighter = λ e. lighter_point p;
   }
@@ -268,7 +268,7 @@ module _ (L : Language) where
 
   -- a ball leaves a nested search
   pub turn_gather_throw : (ball : L.Ball) (active : List ℕ) (e l : ℕ) (c : L.Clauses) (acc : List L.Answer) (f : L.Gathering) (fs : List (FrameOf L)) → Turns L (stands (Over (Thrown ball active)) l c (Collects e acc f ∷ fs)) (stands (Over (Thrown ball (L.active_of f))) l c fs)
-  turn_gather_throw ball active e l c acc f fs = record { value = λ s. refl; sane = λ s. (chain_of fs s.1.2, s.1.2); left = omega arith; lighter = λ e. omega arith }
+  turn_gather_throw ball active e l c acc f fs = record { value = λ s. refl; sane = λ s. ((chain_of fs s.1.2, s.1.1.0), s.1.2); left = omega arith; lighter = λ e. omega arith }
 
   -- a ball goes outward
   pub turn_unwind : (ball : L.Ball) (active : List ℕ) (l : ℕ) (c : L.Clauses) (fs : List (FrameOf L)) → Turns L (stands (Over (Thrown ball active)) l c fs) (unwound L ball active l c fs)
@@ -285,17 +285,17 @@ module _ (L : Language) where
       turns_then (stands (Over (Thrown ball active)) l c (Collects e acc f ∷ fs)) (stands (Over (Thrown ball (L.active_of f))) l c fs) (unwound L ball (L.active_of f) l c fs) (turn_gather_throw ball active e l c acc f fs) (turn_unwind ball (L.active_of f) l c fs)
 
   -- a goal that is activated and is not a node: it raises, halts or fails
-  pub turn_ends : (e l : ℕ) (w : L.World) (c : L.Clauses) (g : L.Goal) (rest : List (Item L.Goal)) (fs : List (FrameOf L)) (x : End L.Ball) → L.activate e g rest w c ≡ Ends [] x → Turns L (stands (At (record { depth = e; items = Call g ∷ rest; world = w })) (suc l) c fs) (stands (Over x) l c fs)
-  turn_ends e l w c g rest fs x is =
+  pub turn_ends : (e l : ℕ) (w : L.World) (c : L.Clauses) (g : L.Goal) (rest : List (Item L.Goal)) (fs : List (FrameOf L)) (x : End L.Ball) → L.activate e g rest w c ≡ Ends [] x → TableSane L → Turns L (stands (At (record { depth = e; items = Call g ∷ rest; world = w })) (suc l) c fs) (stands (Over x) l c fs)
+  turn_ends e l w c g rest fs x is table =
       let same = call_move L e w c fs g rest l
       ∙ ap (after_call L l c fs) is
       ∙ ap (λ h. prepend L h (value L (Over x) l c (emit L [] fs))) (heard-nil fs)
       ∙ ap (λ k. value L (Over x) l c k) (emit-nil fs) in
-      record { value = λ s. sym same; sane = λ s. (chain_of fs s.1, s.1); left = omega arith; lighter = λ e. absurd (omega (arith, e)) }
+      record { value = λ s. sym same; sane = λ s. ((chain_of fs s.1, subst (ActivationSane L e fs) is (table e g rest w c fs s.0.0 s.0.1 s.0.2.0 s.0.2.1)), s.1); left = omega arith; lighter = λ e. absurd (omega (arith, e)) }
 
   -- a goal where no step is left
   pub turn_spent : (e : ℕ) (w : L.World) (c : L.Clauses) (g : L.Goal) (rest : List (Item L.Goal)) (fs : List (FrameOf L)) → Turns L (stands (At (record { depth = e; items = Call g ∷ rest; world = w })) 0 c fs) (stands (Over Spent) 0 c fs)
-  turn_spent e w c g rest fs = record { value = λ s. sym (spent_move L e w c fs g rest); sane = λ s. (chain_falls e fs s.0.0, s.1); left = omega arith; lighter = λ e. omega arith }
+  turn_spent e w c g rest fs = record { value = λ s. sym (spent_move L e w c fs g rest); sane = λ s. ((chain_falls e fs s.0.0, tt), s.1); left = omega arith; lighter = λ e. omega arith }
 
   -- an end of the run goes outward past everything
   halted-value : (z : ℤ) (l : ℕ) (c : L.Clauses) (fs : List (FrameOf L)) → value L (Over (Halted z)) l c [] ≡ value L (Over (Halted z)) l c fs
@@ -305,7 +305,7 @@ module _ (L : Language) where
   halted-value z l c (Collects e acc f ∷ fs) = halted-value z l c fs
 
   pub turn_halted : (z : ℤ) (l : ℕ) (c : L.Clauses) (fs : List (FrameOf L)) → Turns L (stands (Over (Halted z)) l c fs) (stands (Over (Halted z)) l c [])
-  turn_halted z l c fs = record { value = λ s. halted-value z l c fs; sane = λ s. (tt, tt); left = omega arith; lighter = λ e. omega arith }
+  turn_halted z l c fs = record { value = λ s. halted-value z l c fs; sane = λ s. ((tt, tt), tt); left = omega arith; lighter = λ e. omega arith }
 
   spent-value : (l : ℕ) (c : L.Clauses) (fs : List (FrameOf L)) → value L (Over Spent) l c [] ≡ value L (Over Spent) l c fs
   spent-value l c [] = refl
@@ -314,4 +314,4 @@ module _ (L : Language) where
   spent-value l c (Collects e acc f ∷ fs) = spent-value l c fs
 
   pub turn_spent_out : (l : ℕ) (c : L.Clauses) (fs : List (FrameOf L)) → Turns L (stands (Over Spent) l c fs) (stands (Over Spent) l c [])
-  turn_spent_out l c fs = record { value = λ s. spent-value l c fs; sane = λ s. (tt, tt); left = omega arith; lighter = λ e. omega arith }
+  turn_spent_out l c fs = record { value = λ s. spent-value l c fs; sane = λ s. ((tt, tt), tt); left = omega arith; lighter = λ e. omega arith }

@@ -1,6 +1,6 @@
 -- A plain stack of whole states: where a search stands, the steps left, the clauses, and the frames around it.
 use Rattle.std.specs.Prelude.{◌≡◌, ℕ, suc, ◌+◌, ◌*◌, ◌<◌, ◌≤◌, Bool, true, false, Option, Some, None, List, [], ◌∷◌, length}
-use Rattle.search_theory.specs.Search.{Item, Event, prepend, Call, Cut, Pop, Fail, At, Over, Tries, Catches, Collects, Ends, Opens, Language, OutcomeOf, FrameOf, PointOf, StateOf, ActivationOf, depth_of, pops, has, Thrown}
+use Rattle.search_theory.specs.Search.{Item, Event, End, prepend, Call, Cut, Pop, Fail, At, Over, Tries, Catches, Collects, Ends, Opens, Language, OutcomeOf, FrameOf, PointOf, StateOf, ActivationOf, depth_of, pops, has, Thrown}
 use Rattle.search_theory.specs.Frames.{Falls, value}
 
 pub record Configuration (L : Language) : Type 0 where
@@ -48,9 +48,14 @@ module _ (L : Language) where
   Chain [] = Unit {0}
   Chain (f ∷ fs) = Falls (depth_of f) fs
 
+  -- the exits that are active for a ball fall
+  abbrev pub EndOk : End L.Ball → Type 0
+  EndOk (Thrown ball active) = Falling active
+  EndOk _ = Unit {0}
+
   abbrev pub SaneAt : List (FrameOf L) → PointOf L → Type 0
   SaneAt fs (At s) = StateOk fs s
-  SaneAt fs (Over x) = Chain fs
+  SaneAt fs (Over x) = Chain fs × EndOk x
 
   abbrev pub AttemptSane : ℕ → List (FrameOf L) → Option (StateOf L × L.Clauses) → Type 0
   AttemptSane e fs None = Unit {0}
@@ -68,7 +73,7 @@ module _ (L : Language) where
   abbrev pub FrameSane : FrameOf L → List (FrameOf L) → Type 0
   FrameSane (Tries e alts) fs = AlternativesSane e fs alts
   FrameSane (Catches e rec) fs = (ball : L.Ball) → RecoverSane fs (L.recover rec ball)
-  FrameSane (Collects e acc f) fs = (ts : List L.Answer) → SaneAt fs (L.gather f ts)
+  FrameSane (Collects e acc f) fs = Falling (L.active_of f) × ((ts : List L.Answer) → SaneAt fs (L.gather f ts))
 
   abbrev pub FramesSane : List (FrameOf L) → Type 0
   FramesSane [] = Unit {0}
@@ -78,7 +83,7 @@ module _ (L : Language) where
   Sane x = SaneAt x.frames x.point × FramesSane x.frames
 
   abbrev pub ActivationSane : ℕ → List (FrameOf L) → ActivationOf L → Type 0
-  ActivationSane e fs (Ends events x) = Unit {0}
+  ActivationSane e fs (Ends events x) = EndOk x
   ActivationSane e fs (Opens events p f) = (depth_of f ≡ e) × SaneAt (f ∷ fs) p × FrameSane f fs
 
   -- what is asked of the table

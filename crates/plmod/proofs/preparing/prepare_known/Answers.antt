@@ -1,5 +1,4 @@
-use Rattle.std.proofs.Common.{◌∙◌, sym, ap}
-use Rattle.plmod.proofs.PrepareLaws.{same_length}
+use Rattle.plmod.proofs.FetchedLaws.{same_length}
 use Rattle.plmod.proofs.preparing.prepare_known.Goals as goal
 
 pub made_of-requires-clause-each : goal.made_of-requires-clause-each

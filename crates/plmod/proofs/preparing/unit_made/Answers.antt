@@ -1,4 +1,4 @@
-use Rattle.std.proofs.Common.{◌∙◌, ap, length}
+use Rattle.std.proofs.Common.{ap, length}
 use Rattle.plmod.proofs.Units.{short_made}
 use Rattle.plmod.proofs.preparing.unit_made.Goals as goal
 

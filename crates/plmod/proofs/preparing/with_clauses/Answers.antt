@@ -1,4 +1,4 @@
-use Rattle.std.proofs.Common.{◌∙◌, arith}
+use Rattle.std.proofs.Common.{arith}
 use Rattle.plmod.proofs.Units.{clauses_more}
 use Rattle.plmod.proofs.preparing.with_clauses.Goals as goal
 

@@ -1,13 +1,24 @@
-use Rattle.plm_io.proofs.FrontLaws.{front_of_first}
-use Rattle.plmod.proofs.Parts.{answers_run}
+use Rattle.plmod.proofs.GoalLaws.{none_told, end_told, stopped_run}
 use Rattle.plmod.proofs.running.run_program.Goals as goal
 
-pub returns-in-Ok-clause-output : goal.returns-in-Ok-clause-output
-returns-in-Ok-clause-output g c =
-    answers_run c.finish.result c.in-Ok.end _ _ _ _ _ c.finish.ensures.read c.in-Ok.ensures.end c.in-Ok.ensures.all c.finish.ensures.output
+pub returns-in-Ok-NoGoal-clause-output : goal.returns-in-Ok-NoGoal-clause-output
+returns-in-Ok-NoGoal-clause-output g c = λ us o linked gives.
+    let ends = c.in-Ok-NoGoal.ensures.ends us linked in
+    none_told c.goals_are_decided.ensures us c.args.budget c.args.goal.now o c.in-Ok-NoGoal.number c.in-Ok-NoGoal.byte c.faulty_goal.result c.told_or_not.result
+    (g.O.Sink.written c.args.out.now) (g.O.Sink.written c.run_goal.new.out) (g.O.Sink.written c.told_or_not.new.out)
+    c.told_or_not.ensures.read (rw c.in-Ok-NoGoal.field-0-is at ends) c.faulty_goal.ensures.gives c.told_or_not.ensures.output gives
+
+pub returns-in-Ok-Ended-clause-output : goal.returns-in-Ok-Ended-clause-output
+returns-in-Ok-Ended-clause-output g c = λ us o linked gives.
+    let ends = c.in-Ok-Ended.ensures.ends us linked in
+    end_told c.goals_are_decided.ensures us c.args.budget c.args.goal.now o c.in-Ok-Ended.finished c.end_of.result c.told_or_not-in-Ok-Ended.result
+    (g.O.Sink.written c.args.out.now) (g.O.Sink.written c.run_goal.new.out) (g.O.Sink.written c.told_or_not-in-Ok-Ended.new.out)
+    c.told_or_not-in-Ok-Ended.ensures.read (rw c.in-Ok-Ended.field-0-is at ends) c.end_of.ensures.gives c.told_or_not-in-Ok-Ended.ensures.output gives
 
 pub returns-in-Err-WriteFault-clause-output : goal.returns-in-Err-WriteFault-clause-output
-returns-in-Err-WriteFault-clause-output g c = front_of_first _ _ _ _ c.in-Err-WriteFault.ensures.front
+returns-in-Err-WriteFault-clause-output g c = λ us o linked gives.
+    stopped_run us c.args.budget c.args.goal.now o (g.O.Sink.written c.args.out.now) (g.O.Sink.written c.run_goal.new.out) (c.in-Err-WriteFault.ensures.front us linked) gives
 
 pub returns-in-Err-NoMemory-clause-output : goal.returns-in-Err-NoMemory-clause-output
-returns-in-Err-NoMemory-clause-output g c = front_of_first _ _ _ _ c.in-Err-NoMemory.ensures.front
+returns-in-Err-NoMemory-clause-output g c = λ us o linked gives.
+    stopped_run us c.args.budget c.args.goal.now o (g.O.Sink.written c.args.out.now) (g.O.Sink.written c.run_goal.new.out) (c.in-Err-NoMemory.ensures.front us linked) gives

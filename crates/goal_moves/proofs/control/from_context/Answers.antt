@@ -1,0 +1,30 @@
+use Rattle.std.proofs.Common.{◌∙◌}
+use Rattle.goal_moves.proofs.Committing.{IfOk-then}
+use Rattle.goal_moves.proofs.TakenMoves.{grown_ready, grown_well, grown_steady, grew_then, moved_grown}
+use Rattle.goal_moves.proofs.ArgumentMoves.{module_ball_ref, from_context_runs, from_context_ball}
+use Rattle.goal_moves.proofs.control.from_context.Goals as goal
+
+pub run_taken-requires-clause-ready : goal.run_taken-requires-clause-ready
+run_taken-requires-clause-ready c =
+    grown_ready c.args.library.now c.args.path.now c.taken_for_goal.new.path c.args.active c.requires.ready (grew_then c.args.path.now c.module_of.new.path c.taken_for_goal.new.path c.in_ok-named.ensures.grew c.in_ok-taken-in-Module.ensures.grew)
+
+pub run_taken-requires-clause-runs : goal.run_taken-requires-clause-runs
+run_taken-requires-clause-runs c =
+    let b = c.args.library.now in
+    let s = grown_steady b c.args.path.now c.module_of.new.path c.args.active c.requires.ready c.in_ok-named.ensures.grew in
+    from_context_runs b c.args.path.now c.module_of.new.path c.taken_for_goal.new.path c.args.active c.requires.ready c.in_ok-named.ensures.grew c.in_ok-taken-in-Module.ensures.grew c.args.goal c.args.context c.requires.row.0
+    c.in_ok-taken-in-Module.taken c.in-Module.context c.in_ok-named.named c.module_of.new.path.depth (s.depth ∙ c.requires.ready.depth) c.requires.row.2 c.in_ok-named.ensures.named c.in-Module.is c.in_ok-taken-in-Module.ensures.goal
+
+pub returns-in_ok-taken-in-Module : goal.returns-in_ok-taken-in-Module
+returns-in_ok-taken-in-Module c =
+    IfOk-then c.run_taken.result c.run_taken.ensures (λ g m. moved_grown c.args.library.now c.args.path.now c.taken_for_goal.new.path c.args.active c.requires.ready (grew_then c.args.path.now c.module_of.new.path c.taken_for_goal.new.path c.in_ok-named.ensures.grew c.in_ok-taken-in-Module.ensures.grew) c.run_taken.new.path g m)
+
+pub raise-requires-clause-well : goal.raise-requires-clause-well
+raise-requires-clause-well c = grown_well c.args.library.now c.args.path.now c.module_of.new.path c.args.active c.requires.ready c.in_ok-named.ensures.grew
+
+pub raise-requires-clause-ball : goal.raise-requires-clause-ball
+raise-requires-clause-ball c = module_ball_ref c.args.library.now c.args.path.now c.module_of.new.path c.args.active c.requires.ready c.in_ok-named.ensures.grew c.args.goal c.args.context c.in-Ball.ball c.in_ok-named.named c.in_ok-named.ensures.named c.in-Ball.is
+
+pub returns-in-Ball : goal.returns-in-Ball
+returns-in-Ball c =
+    IfOk-then c.raise.result c.raise.ensures (λ g m. from_context_ball c.args.library.now c.args.path.now c.module_of.new.path c.args.active c.requires.ready c.in_ok-named.ensures.grew c.args.goal c.args.context c.raise.new.path c.in-Ball.ball c.in_ok-named.named g c.requires.row.2 c.in_ok-named.ensures.named c.in-Ball.is m)

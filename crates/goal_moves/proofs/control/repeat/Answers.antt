@@ -1,0 +1,20 @@
+use Rattle.std.proofs.Common.{◌∷◌, refl}
+use Rattle.search_theory.specs.Search.{Call}
+use Rattle.goal_records.specs.Denotation.{items_here}
+use Rattle.goal_moves.specs.Control.{goal_at}
+use Rattle.goal_moves.proofs.Committing.{after_floor}
+use Rattle.goal_moves.proofs.RowMoves.{moved_repeat}
+use Rattle.goal_moves.proofs.control.repeat.Goals as goal
+
+pub open_here-requires-clause-place : goal.open_here-requires-clause-place
+open_here-requires-clause-place c = (c.in_ok-again.ensures c.args.library.now).at_within
+
+pub open_here-requires-clause-floor : goal.open_here-requires-clause-floor
+open_here-requires-clause-floor c =
+    let b = c.args.library.now in
+    after_floor b c.args.path.now c.enter_part.new.path c.args.active.rest c.in_ok-again.again (Call (goal_at c.args.path.now c.args.active) ∷ items_here b c.args.path.now c.args.active.rest.f c.args.active.rest.pc) (c.in_ok-again.ensures b) c.args.active.node c.requires.ready.well
+
+pub returns : goal.returns
+returns c =
+    let b = c.args.library.now in
+    moved_repeat b c.args.path.now c.args.active c.requires.ready c.enter_part.new.path c.open_here.new.path c.in_ok-again.again (Call (goal_at c.args.path.now c.args.active) ∷ items_here b c.args.path.now c.args.active.rest.f c.args.active.rest.pc) (c.in_ok-again.ensures b) c.in_ok-open_here.ensures c.requires.row refl

@@ -1,0 +1,6 @@
+pub mod Clauses
+pub mod Control
+pub mod Entering
+pub mod Moves
+pub mod Throwing
+pub mod Walking

@@ -1,0 +1,181 @@
+//! The activation of goals (ISO/IEC 13211-1, 7.7.6).
+ghost use Rattle.std.specs.Prelude.{◌≡◌, ◌+◌, ◌<◌, ◌≤◌, ◌∷◌, ◌++◌, [], ℕ, length, reverse, true, false, Some, IfOk, OnOk};
+ghost use Rattle.pl_terms.specs.Trees.{Tree};
+ghost use Rattle.pl_terms.specs.Occurrence.{canon};
+ghost use Rattle.pl_unify.specs.State.{tree_at, IsRef};
+ghost use Rattle.search_theory.specs.Search.{Call, Cut, Pop, Fail, Over, Failed, pops};
+ghost use Rattle.goal_model.specs.Bodies.{flat};
+ghost use Rattle.goal_code.specs.Continuations.{items_from};
+ghost use Rattle.goal_frames.specs.Frames.{env_of, part_item, running};
+ghost use Rattle.goal_terms.specs.Goals.{IsRow};
+ghost use Rattle.goal_records.specs.Denotation.{linked, naming, bodies, state_of, items_here, search_at, answers_of};
+ghost use Rattle.goal_records.specs.Well.{IsLibrary, IsWell, IsWellWith, floor_of};
+ghost use Rattle.pl_ops.specs.Standard.{standard};
+ghost use Rattle.pl_ops.specs.Tables.{operator};
+ghost use Rattle.goal_code.specs.Runs.{goal_of, next_of};
+ghost use Rattle.pl_unify.specs.Code.{code_tree_in};
+ghost use Rattle.goal_moves.specs.Control.{Grew, GoalHere};
+ghost use Rattle.goal_moves.specs.Moves.{goal_items, called, thrown, tried, resumed, IsReady, IsTrying, Moved, Entered, here, IsCode, StandsAt, Activated};
+
+use crate::active::{Active, Rest};
+use crate::collecting::collecting;
+use crate::control::{
+    calling, catching, commit, either, from_context, if_then, if_then_else, in_module, negation,
+    once, repeat, throwing,
+};
+use crate::going::Going;
+use crate::plain::do_row;
+use crate::user::call_procedure;
+use goal_code::Instruction;
+use goal_frames::Setting;
+use goal_records::{Library, Path};
+use goal_terms::GoalRow;
+use pl_atoms::{Bytes, NoMemory};
+use pl_ops::OpTable;
+use pl_store::ClauseId;
+use pl_unify::Ref;
+use std::alloc::Global;
+
+/// Activates a goal that is a term. What it writes is put onto `text`.
+pub fn activate_term(
+    alloc: Global,
+    library: &mut Library,
+    table: &OpTable,
+    path: &mut Path,
+    active: Active,
+    text: &mut Bytes,
+) -> Result<Going, NoMemory>
+    requires library { IsLibrary library.old }
+    requires table { operator table.now ≡ operator standard }
+    requires ready { IsReady library.old path.old active }
+    ensures library { OnOk result (library.new ≡ library.old) }
+    ensures activated { IfOk result (λ g. Activated library.old path.old path.new (called library.old path.old active.node (goal_items library.old path.old active)) text.old text.new g) }
+{
+    match library.constructs.row(&path.store, active.goal) {
+        GoalRow::Commit => Ok(commit(library, path, active)),
+        GoalRow::IfThenElse(condition, then, otherwise) => {
+            if_then_else(alloc, library, path, active, condition, then, otherwise)
+        }
+        GoalRow::IfThen(condition, then) => if_then(alloc, library, path, active, condition, then),
+        GoalRow::Either(left, right) => either(alloc, library, path, active, left, right),
+        GoalRow::Negation(goal) => negation(alloc, library, path, active, goal),
+        GoalRow::Once(goal) => once(alloc, library, path, active, goal),
+        GoalRow::Calling => calling(alloc, library, path, active),
+        GoalRow::InModule(home, goal) => in_module(alloc, library, path, active, home, goal),
+        GoalRow::FromContext(goal, context) => {
+            from_context(alloc, library, path, active, goal, context)
+        }
+        GoalRow::Repeat => repeat(library, path, active),
+        GoalRow::Throwing(ball) => throwing(alloc, library, path, active, ball),
+        GoalRow::Catching(goal, catcher, recovery) => {
+            catching(alloc, library, path, active, goal, catcher, recovery)
+        }
+        GoalRow::Collecting(template, goal, list) => {
+            collecting(alloc, library, path, active, template, goal, list)
+        }
+        GoalRow::Plain(row) => do_row(alloc, library, table, path, active, row, text),
+        GoalRow::User => call_procedure(alloc, library, path, active),
+    }
+}
+
+/// Activates the goal of an instruction, which stands first on the path. What it writes is put onto `text`.
+pub fn activate_code(
+    alloc: Global,
+    library: &mut Library,
+    table: &OpTable,
+    path: &mut Path,
+    instruction: Instruction,
+    setting: Setting,
+    node: usize,
+    text: &mut Bytes,
+) -> Result<Going, NoMemory>
+    requires library { IsLibrary library.old }
+    requires table { operator table.now ≡ operator standard }
+    requires well { IsWellWith library.old path.old (reverse path.old.choices.items) node }
+    requires depth { path.old.depth ≡ node + 1 }
+    requires code { IsCode library.old path.old instruction setting }
+    ensures library { OnOk result (library.new ≡ library.old) }
+    ensures activated { IfOk result (λ g. Activated library.old path.old path.new (called library.old path.old node (items_here library.old path.old path.old.f path.old.pc)) text.old text.new g) }
+{
+    let active = goal_here(library, path, instruction, setting, node)?;
+    activate_term(alloc, library, table, path, active, text)
+}
+
+// Puts the goal of an instruction, which stands first on the path, into the store.
+fn goal_here(
+    library: &Library,
+    path: &mut Path,
+    instruction: Instruction,
+    setting: Setting,
+    node: usize,
+) -> Result<Active, NoMemory>
+    requires library { IsLibrary library.now }
+    requires well { IsWellWith library.now path.old (reverse path.old.choices.items) node }
+    requires depth { path.old.depth ≡ node + 1 }
+    requires code { IsCode library.now path.old instruction setting }
+    ensures { IfOk result (λ a. GoalHere library.now path.old path.new node a) }
+{
+    let _frame = path.frames.get(path.f);
+    let (f, pc) = path.frames.after(path.f, next_of(instruction));
+    let goal = build_goal(library, path, instruction, setting)?;
+    let rest = Rest { f, pc };
+    Ok(Active {
+        goal,
+        setting,
+        rest,
+        node,
+    })
+}
+
+// Puts the term of an instruction of a clause into the store. The clause's variables were made when the clause was taken, so that
+// none is new.
+fn build_goal(
+    library: &Library,
+    path: &mut Path,
+    instruction: Instruction,
+    setting: Setting,
+) -> Result<Ref, NoMemory>
+    requires clause { setting.clause < length library.now.codes }
+    requires place { goal_of instruction < length (bodies library.now setting.clause).words }
+    requires base { setting.base ≤ (state_of path.old).next }
+    ensures grew { OnOk result (Grew path.old path.new) }
+    ensures place { IfOk result (λ at. IsRef (state_of path.new) at) }
+    ensures tree { IfOk result (λ at. tree_at (state_of path.new) at ≡ code_tree_in (state_of path.old) setting.base (bodies library.now setting.clause).words (goal_of instruction)) }
+{
+    let body = &library.codes.get(ClauseId(setting.clause)).body;
+    let before = path.store.next_var();
+    let goal = path
+        .store
+        .build_place(body, place_of(instruction), setting.base)?;
+    let after = path.store.next_var();
+    if after != before {
+        return Err(NoMemory);
+    }
+    Ok(goal)
+}
+
+// Where the term of an instruction stands.
+fn place_of(instruction: Instruction) -> usize
+    ensures { result ≡ goal_of instruction }
+{
+    match instruction {
+        Instruction::Goal { goal, .. } => goal,
+        Instruction::Cut { goal, .. } => goal,
+        Instruction::Either { goal, .. } => goal,
+        Instruction::If { goal, .. } => goal,
+        Instruction::EndIf { .. } => 0,
+    }
+}
+
+// The place that follows an instruction.
+pub(crate) fn next_of(instruction: Instruction) -> usize
+    ensures { result ≡ next_of instruction }
+{
+    match instruction {
+        Instruction::Goal { next, .. } => next,
+        Instruction::Cut { next, .. } => next,
+        Instruction::Either { next, .. } => next,
+        Instruction::If { next, .. } => next,
+        Instruction::EndIf { next } => next,
+    }
+}

@@ -1,0 +1,84 @@
+//! Goals of built-in predicates that are no control constructs.
+ghost use Rattle.std.specs.Prelude.{◌≡◌, map, All, IfOk, OnOk};
+ghost use Rattle.builtin_model.specs.Lists.{listed};
+ghost use Rattle.pl_unify.specs.State.{tree_at, IsRef};
+ghost use Rattle.pl_ops.specs.Standard.{standard};
+ghost use Rattle.pl_ops.specs.Tables.{operator};
+ghost use Rattle.goal_terms.specs.Goals.{IsRow, arguments_of};
+ghost use Rattle.goal_terms.specs.declared.row.GoalRow.TheVariants as GoalRow;
+ghost use Rattle.goal_records.specs.Denotation.{naming, state_of};
+ghost use Rattle.goal_records.specs.Well.{IsLibrary};
+ghost use Rattle.goal_moves.specs.Moves.{goal_items, called, IsReady, Activated};
+
+use crate::active::Active;
+use crate::going::Going;
+use crate::raising::raise;
+use goal_records::{Library, Path};
+use pl_atoms::{Bytes, NoMemory};
+use pl_builtins::{Outcome, call};
+use pl_ops::OpTable;
+use pl_unify::{Ref, Store, View};
+use std::alloc::Global;
+
+/// Does what the built-in predicate of a row of the table of built-in procedures does. What it writes is put onto `text`.
+pub fn do_row(
+    alloc: Global,
+    library: &mut Library,
+    table: &OpTable,
+    path: &mut Path,
+    active: Active,
+    row: usize,
+    text: &mut Bytes,
+) -> Result<Going, NoMemory>
+    requires library { IsLibrary library.old }
+    requires table { operator table.now ≡ operator standard }
+    requires ready { IsReady library.old path.old active }
+    requires row { IsRow (naming library.old) (state_of path.old) active.goal (GoalRow.Plain row) }
+    ensures library { OnOk result (library.new ≡ library.old) }
+    ensures activated { IfOk result (λ g. Activated library.old path.old path.new (called library.old path.old active.node (goal_items library.old path.old active)) text.old text.new g) }
+{
+    let args = arguments(alloc, &path.store, active.goal)?;
+    let caller = active.setting.caller;
+    let before = library.names.len();
+    let outcome = call(
+        alloc,
+        &mut path.store,
+        &mut library.names,
+        table,
+        row,
+        &args,
+        caller,
+        text,
+    )?;
+    let _store = path.store.next_var();
+    // The names that built-in predicates make are there before a run begins.
+    if library.names.len() != before {
+        return Err(NoMemory);
+    }
+    match outcome {
+        Outcome::Yes => {
+            path.f = active.rest.f;
+            path.pc = active.rest.pc;
+            Ok(Going::On)
+        }
+        Outcome::No => Ok(Going::Fails),
+        Outcome::Error(ball) => raise(alloc, library, path, ball, active.rest),
+        Outcome::Halt(status) => Ok(Going::Halts(status)),
+    }
+}
+
+// The places of a goal's arguments.
+fn arguments(alloc: Global, store: &Store, goal: Ref) -> Result<Vec<Ref>, NoMemory>
+    requires { IsRef store.now.state goal }
+    ensures places { IfOk result (λ args. All (λ r. IsRef store.now.state r) args.items) }
+    ensures trees { IfOk result (λ args. map (tree_at store.now.state) args.items ≡ listed (arguments_of (tree_at store.now.state goal))) }
+{
+    let mut args = Vec::new(alloc);
+    let View::Comp(_, count) = store.view(goal) else {
+        return Ok(args);
+    };
+    for k in 0..count {
+        args.push(store.arg(goal, k))?;
+    }
+    Ok(args)
+}

@@ -1,0 +1,375 @@
+//! Goals of the procedures of the program (ISO/IEC 13211-1, 7.7.7 to 7.7.10).
+ghost use Rattle.std.specs.Prelude.{◌≡◌, ◌+◌, ◌<◌, ◌≤◌, ◌∷◌, ◌++◌, [], ℕ, length, reverse, true, false, Some, IfOk, OnOk};
+ghost use Rattle.pl_terms.specs.Trees.{Tree};
+ghost use Rattle.pl_terms.specs.Occurrence.{canon};
+ghost use Rattle.pl_unify.specs.State.{tree_at, IsRef};
+ghost use Rattle.search_theory.specs.Search.{Call, Cut, Pop, Fail, Over, Failed, pops};
+ghost use Rattle.goal_model.specs.Bodies.{flat};
+ghost use Rattle.goal_code.specs.Continuations.{items_from};
+ghost use Rattle.goal_frames.specs.Frames.{env_of, part_item, running};
+ghost use Rattle.goal_terms.specs.Goals.{IsRow};
+ghost use Rattle.goal_records.specs.Denotation.{linked, naming, bodies, state_of, items_here, search_at, answers_of};
+ghost use Rattle.goal_records.specs.Well.{IsLibrary, IsWell, IsWellWith, floor_of};
+ghost use Rattle.goal_moves.specs.declared.going.Going.TheVariants.{Fails};
+ghost use Rattle.goal_terms.specs.declared.row.GoalRow.TheVariants as GoalRow;
+ghost use Rattle.pl_unify.specs.State.{IsStore, Extends};
+ghost use Rattle.run_model.specs.Substitution.{raise as raise_by};
+ghost use Rattle.run_model.specs.Mgu.{mgu};
+ghost use Rattle.std.specs.Prelude.{None as Nothing};
+ghost use Rattle.goal_heads.specs.Heads.{Took};
+ghost use Rattle.goal_model.specs.Choices.{key_of as goal_key, argument_key};
+ghost use Rattle.pl_store.specs.Linked.{clause_at, key_view};
+ghost use Rattle.goal_records.specs.Well.{IsGoalOf};
+ghost use Rattle.std.specs.Prelude.{is_some};
+ghost use Rattle.pl_unify.specs.State.{Grows};
+ghost use Rattle.pl_unify.specs.Shape.{root};
+ghost use Rattle.goal_heads.specs.Heads.{IsNamed};
+ghost use Rattle.goal_model.specs.Environments.{body_place};
+ghost use Rattle.pl_store.specs.Linked.{procedure_at, visible_in};
+ghost use Rattle.pl_store.specs.Rules.{indicator_of as goal_indicator};
+ghost use Rattle.goal_moves.specs.Clauses.{IsProcedureOf, passed_goal, NothingFits, FitsNext, WasTried, body_rest, IsProper};
+ghost use Rattle.goal_moves.specs.Moves.{goal_items, called, thrown, tried, resumed, IsReady, IsTrying, Moved, Entered, here, IsCode, StandsAt, Activated};
+
+use crate::active::{Active, Rest};
+use crate::enter::enter_body;
+use crate::going::Going;
+use crate::raising::raise;
+use goal_frames::Setting;
+use goal_heads::try_head;
+use goal_records::{ChoiceKind, Library, Path};
+use mod_meta::qualify;
+use pl_atoms::{NameId, NoMemory};
+use pl_store::{ClauseId, Key, ProcId};
+use pl_unify::{Ref, Store, View};
+use std::alloc::Global;
+
+/// What clauses are tried for: a goal with its arguments qualified, the setting in which their bodies run, whose depth is that of the
+/// goal's node, and what follows the goal.
+#[derive(Clone, Copy, Debug)]
+pub struct Attempt {
+    pub goal: Ref,
+    pub setting: Setting,
+    pub rest: Rest,
+}
+
+// What trying a clause gives: it was taken, another one is next, or none is left.
+enum Tried {
+    Taken,
+    Next(ClauseId),
+    Gone,
+}
+
+/// Activates a goal of a procedure of the program.
+pub fn call_procedure(
+    alloc: Global,
+    library: &Library,
+    path: &mut Path,
+    active: Active,
+) -> Result<Going, NoMemory>
+    requires library { IsLibrary library.now }
+    requires ready { IsReady library.now path.old active }
+    requires row { IsRow (naming library.now) (state_of path.old) active.goal GoalRow.User }
+    ensures { IfOk result (λ g. Moved library.now path.old path.new (called library.now path.old active.node (goal_items library.now path.old active)) g) }
+{
+    let (name, arity) = name_and_arity(&path.store, active.goal);
+    let lookup = active.setting.lookup;
+    match library.tables.procedure(lookup, name, arity) {
+        None => throw_unknown(alloc, library, path, active, name, arity),
+        Some(proc) => call_clauses(alloc, library, path, active, proc),
+    }
+}
+
+// Throws the error of a procedure that is not visible.
+fn throw_unknown(
+    alloc: Global,
+    library: &Library,
+    path: &mut Path,
+    active: Active,
+    name: NameId,
+    arity: u8,
+) -> Result<Going, NoMemory>
+    requires library { IsLibrary library.now }
+    requires ready { IsReady library.now path.old active }
+    requires row { IsRow (naming library.now) (state_of path.old) active.goal GoalRow.User }
+    requires goal { goal_indicator (tree_at (state_of path.old) active.goal) ≡ Some (record { name = name.0; arity = arity }) }
+    requires unseen { visible_in library.now.tables.rows active.setting.lookup.0 (record { name = name.0; arity = arity }) ≡ Nothing }
+    ensures { IfOk result (λ g. Moved library.now path.old path.new (called library.now path.old active.node (goal_items library.now path.old active)) g) }
+{
+    let lookup = active.setting.lookup;
+    let ball = library
+        .constructs
+        .no_procedure(&mut path.store, name, arity, lookup)?;
+    let _next = path.store.next_var();
+    raise(alloc, library, path, ball, active.rest)
+}
+
+// Activates a goal of a visible procedure.
+fn call_clauses(
+    alloc: Global,
+    library: &Library,
+    path: &mut Path,
+    active: Active,
+    proc: ProcId,
+) -> Result<Going, NoMemory>
+    requires library { IsLibrary library.now }
+    requires ready { IsReady library.now path.old active }
+    requires row { IsRow (naming library.now) (state_of path.old) active.goal GoalRow.User }
+    requires seen { IsProcedureOf library.now path.old active proc.0 }
+    ensures { IfOk result (λ g. Moved library.now path.old path.new (called library.now path.old active.node (goal_items library.now path.old active)) g) }
+{
+    let goal = passed(alloc, library, path, active, proc)?;
+    let key = key_of(&path.store, goal);
+    let Some(first) = library.tables.first(proc, key) else {
+        return Ok(Going::Fails);
+    };
+    let attempt = Attempt {
+        goal,
+        setting: body_setting(library, proc, active.setting.context, active.node),
+        rest: active.rest,
+    };
+    try_clauses(library, path, attempt, first)
+}
+
+// The goal as its procedure gets it.
+fn passed(
+    alloc: Global,
+    library: &Library,
+    path: &mut Path,
+    active: Active,
+    proc: ProcId,
+) -> Result<Ref, NoMemory>
+    requires library { IsLibrary library.now }
+    requires goal { IsRef (state_of path.old) active.goal }
+    requires store { IsStore (state_of path.old) }
+    requires seen { IsProcedureOf library.now path.old active proc.0 }
+    ensures others { path.new ≡ record path.old { store = path.new.store } }
+    ensures store { OnOk result (IsStore (state_of path.new)) }
+    ensures grows { Grows (state_of path.old) (state_of path.new) }
+    ensures next { (state_of path.new).next ≡ (state_of path.old).next }
+    ensures place { IfOk result (λ at. IsRef (state_of path.new) at) }
+    ensures tree { IfOk result (λ at. tree_at (state_of path.new) at ≡ passed_goal library.now (tree_at (state_of path.old) active.goal) active.setting.context.0 proc.0) }
+{
+    let Some(modes) = library.tables.modes(proc) else {
+        let _next = path.store.next_var();
+        return Ok(active.goal);
+    };
+    let colon = library.constructs.names().colon;
+    let context = active.setting.context;
+    let goal = qualify(alloc, &mut path.store, active.goal, modes, context, colon)?;
+    let _next = path.store.next_var();
+    Ok(goal)
+}
+
+// Where the bodies of a procedure's clauses run that is called in a context (ISO/IEC 13211-2, 6.1).
+fn body_setting(library: &Library, proc: ProcId, context: NameId, node: usize) -> Setting
+    requires { proc.0 < length (linked library.now).procedures }
+    ensures env { env_of result ≡ body_place (procedure_at (linked library.now) proc.0).home context.0 (is_some (procedure_at (linked library.now) proc.0).modes) }
+    ensures base { result.base ≡ 0 }
+    ensures depth { result.depth ≡ node }
+{
+    let home = library.tables.home(proc);
+    let caller = if library.tables.modes(proc).is_some() {
+        context
+    } else {
+        home
+    };
+    Setting {
+        clause: 0,
+        base: 0,
+        lookup: home,
+        context: home,
+        caller,
+        depth: node,
+    }
+}
+
+// The name and the number of arguments of a goal.
+fn name_and_arity(store: &Store, goal: Ref) -> (NameId, u8)
+    requires place { IsRef store.now.state goal }
+    requires named { IsNamed (root (tree_at store.now.state goal)) }
+    ensures { goal_indicator (tree_at store.now.state goal) ≡ Some (record { name = result.0.0; arity = result.1 }) }
+{
+    match store.view(goal) {
+        View::Comp(name, arity) => (name, arity),
+        View::Name(name) => (name, 0),
+        _ => unreachable!(),
+    }
+}
+
+/// Tries clauses from one on, until one is taken. A record is opened where another one is left that may be taken.
+pub fn try_clauses(
+    library: &Library,
+    path: &mut Path,
+    attempt: Attempt,
+    first: ClauseId,
+) -> Result<Going, NoMemory>
+    requires library { IsLibrary library.now }
+    requires trying { IsTrying library.now path.old attempt first.0 }
+    ensures moved { IfOk result (λ g. Moved library.now path.old path.new (tried library.now path.old attempt first.0) g) }
+    ensures gone { IfOk result (λ g. g ≡ Fails → path.new.choices ≡ path.old.choices) }
+{
+    let mut clause = first;
+    loop {
+        match try_clause(library, path, attempt, clause)? {
+            Tried::Taken => return Ok(Going::On),
+            Tried::Gone => return Ok(Going::Fails),
+            Tried::Next(next) => clause = next,
+        }
+    }
+}
+
+// Tries a clause. A record is opened where another one is left that may be taken.
+fn try_clause(
+    library: &Library,
+    path: &mut Path,
+    attempt: Attempt,
+    clause: ClauseId,
+) -> Result<Tried, NoMemory>
+    requires library { IsLibrary library.now }
+    requires trying { IsTrying library.now path.old attempt clause.0 }
+    ensures { IfOk result (λ t. WasTried library.now path.old path.new attempt clause.0 t) }
+{
+    let key = key_of(&path.store, attempt.goal);
+    match library.tables.next(clause, key) {
+        None => try_last(library, path, attempt, clause),
+        Some(next) => try_one(library, path, attempt, clause, next),
+    }
+}
+
+// Tries the last clause that may be taken.
+fn try_last(
+    library: &Library,
+    path: &mut Path,
+    attempt: Attempt,
+    clause: ClauseId,
+) -> Result<Tried, NoMemory>
+    requires library { IsLibrary library.now }
+    requires trying { IsTrying library.now path.old attempt clause.0 }
+    requires last { NothingFits library.now path.old attempt clause.0 }
+    ensures { IfOk result (λ t. WasTried library.now path.old path.new attempt clause.0 t) }
+{
+    let base = path.store.next_var();
+    if !try_clause_head(library, path, attempt, clause)? {
+        return Ok(Tried::Gone);
+    }
+    take(library, path, attempt, clause, base)?;
+    Ok(Tried::Taken)
+}
+
+// Tries a clause, with another one left that may be taken.
+fn try_one(
+    library: &Library,
+    path: &mut Path,
+    attempt: Attempt,
+    clause: ClauseId,
+    next: ClauseId,
+) -> Result<Tried, NoMemory>
+    requires library { IsLibrary library.now }
+    requires trying { IsTrying library.now path.old attempt clause.0 }
+    requires next { FitsNext library.now path.old attempt clause.0 next.0 }
+    ensures { IfOk result (λ t. WasTried library.now path.old path.new attempt clause.0 t) }
+{
+    let base = path.store.next_var();
+    let mark = path.store.mark();
+    if !try_clause_head(library, path, attempt, clause)? {
+        path.store.undo(&mark);
+        return Ok(Tried::Next(next));
+    }
+    let kind = ChoiceKind::Clauses {
+        clause: next,
+        goal: attempt.goal,
+    };
+    path.open_record(
+        kind,
+        mark,
+        attempt.rest.f,
+        attempt.rest.pc,
+        attempt.setting,
+        attempt.setting.depth,
+    )?;
+    take(library, path, attempt, clause, base)?;
+    Ok(Tried::Taken)
+}
+
+// Unifies the goal with a clause's head.
+fn try_clause_head(
+    library: &Library,
+    path: &mut Path,
+    attempt: Attempt,
+    clause: ClauseId,
+) -> Result<bool, NoMemory>
+    requires library { IsLibrary library.now }
+    requires store { IsStore (state_of path.old) }
+    requires goal { IsRef (state_of path.old) attempt.goal }
+    requires fits { IsGoalOf (linked library.now) clause.0 (tree_at (state_of path.old) attempt.goal) }
+    ensures others { path.new ≡ record path.old { store = path.new.store } }
+    ensures store { OnOk result (IsStore (state_of path.new)) }
+    ensures extends { Extends (state_of path.old) (state_of path.new) }
+    ensures yes { IfOk result (λ yes. yes ≡ true → Took (state_of path.old) (state_of path.new) (tree_at (state_of path.old) attempt.goal) (clause_at (linked library.now) clause.0).clause.head (clause_at (linked library.now) clause.0).clause.width) }
+    ensures no { IfOk result (λ yes. yes ≡ false → mgu ((tree_at (state_of path.old) attempt.goal, raise_by (state_of path.old).next (clause_at (linked library.now) clause.0).clause.head) ∷ []) ≡ Nothing) }
+{
+    see_head(library, clause);
+    let code = library.codes.get(clause);
+    let taken = try_head(&mut path.store, attempt.goal, &code.head)?;
+    let _next = path.store.next_var();
+    Ok(taken)
+}
+
+// Shows that the head of a clause has arguments where it is a compound, as each term has.
+fn see_head(library: &Library, clause: ClauseId)
+    requires clause { clause.0 < length (linked library.now).clauses }
+    ensures { IsProper (clause_at (linked library.now) clause.0).clause.head }
+{
+    let (_, head, _) = library.tables.clause(clause);
+    let _cells = head.cells();
+}
+
+// Goes on with the body of a clause whose head was unified, with its variables numbered from `base` on.
+fn take(
+    library: &Library,
+    path: &mut Path,
+    attempt: Attempt,
+    clause: ClauseId,
+    base: usize,
+) -> Result<(), NoMemory>
+    requires clause { clause.0 < length library.now.codes }
+    requires rest { attempt.rest.f ≤ length path.old.frames }
+    requires floor { floor_of (reverse path.old.choices.items) ≤ length path.old.frames }
+    requires base { base ≤ (state_of path.old).next }
+    ensures { OnOk result (Entered library.now path.old path.new attempt.rest (here path.new) (body_rest library.now path.old attempt clause.0 base)) }
+{
+    let setting = Setting {
+        clause: clause.0,
+        base,
+        lookup: attempt.setting.lookup,
+        context: attempt.setting.context,
+        caller: attempt.setting.caller,
+        depth: attempt.setting.depth,
+    };
+    let start = library.codes.get(clause).goals.start();
+    enter_body(path, start, setting, attempt.rest)
+}
+
+// What is known of a goal's first argument.
+fn key_of(store: &Store, goal: Ref) -> Key
+    requires { IsRef store.now.state goal }
+    ensures { key_view result ≡ goal_key (tree_at store.now.state goal) }
+{
+    match store.view(goal) {
+        View::Comp(_, arity) if arity > 0 => key_of_argument(store, store.arg(goal, 0)),
+        _ => Key::Any,
+    }
+}
+
+// What is known of an argument.
+fn key_of_argument(store: &Store, argument: Ref) -> Key
+    requires { IsRef store.now.state argument }
+    ensures { key_view result ≡ argument_key (tree_at store.now.state argument) }
+{
+    match store.view(argument) {
+        View::Var(_) => Key::Any,
+        View::Int(value) => Key::Int(value),
+        View::Name(name) => Key::Name(name),
+        View::Comp(name, arity) => Key::Comp(name, arity),
+    }
+}

@@ -1,0 +1,4 @@
+mod Ends
+mod Texts
+mod Joining
+mod Goals

@@ -1,0 +1,5 @@
+pub mod Decided
+pub mod Runs
+pub mod Variables
+pub mod Faults
+mod Vectors

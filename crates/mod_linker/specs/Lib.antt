@@ -1,0 +1,10 @@
+pub mod Items
+pub mod Keys
+pub mod Usable
+pub mod Cells
+pub mod Entering
+pub mod Modules
+pub mod Rowing
+pub mod Showing
+pub mod Linking
+pub mod Holding

@@ -1,0 +1,56 @@
+-- Machines that stay in order.
+use Rattle.std.proofs.Common.{◌≡◌, ℕ, ◌+◌, ◌^◌, ◌<◌, ◌≤◌, Option, Some, None, refl, sym, ap, subst, arith, reverse}
+use Rattle.std.specs.List.{All}
+use Rattle.pl_unify.specs.declared.word.Ref.{Ref}
+use Rattle.pl_unify.specs.State.{Stored, IsStore, Extends}
+use Rattle.goal_records.specs.Denotation.{state_of}
+use Rattle.goal_records.specs.declared.library.Library.{Library}
+use Rattle.goal_records.specs.declared.path.Path.{Path}
+use Rattle.goal_records.specs.Well.{IsLibrary, IsWell}
+use Rattle.goal_records.proofs.PathLaws.{grown_well}
+use Rattle.goal_moves.specs.declared.going.Going.{Going}
+use Rattle.pl_machine.specs.declared.machine.Machine.{Machine}
+use Rattle.pl_machine.specs.Machine.{IsMachine}
+
+-- nothing is there
+pub none_of : {A : Type 0} (o : Option A) → ((x : A) → o ≡ Some x → ⊥) → o ≡ None
+none_of None h = refl
+none_of (Some x) h = absurd (h x refl)
+
+-- a move was made
+pub moved_machine : (m : Machine) (p : Path) (g : Going) → IsMachine m → IsWell m.library p → p.depth ≤ m.path.depth → p.width ≡ m.path.width → IsMachine (record m { path = p; going = g })
+moved_machine m p g h well low width = record {
+  library = h.library;
+  table = h.table;
+  well = well;
+  room = let room = h.room in omega (arith, room, low);
+  counted = h.counted;
+  answers = h.answers;
+  variables = subst (λ w. All (λ v. v.number < w) m.variables.items) (sym width) h.variables;
+}
+
+-- an answer was shown
+pub answered_machine : (m : Machine) (st : Stored) (answers : ℕ) → IsMachine m → IsStore st.state → Extends (state_of m.path) st.state → answers < 2 ^ 64 → IsMachine (record m { path = record m.path { store = st }; answers = answers })
+answered_machine m st answers h store more few =
+    let q : Path = record m.path { store = st } in
+    record {
+      library = h.library;
+      table = h.table;
+      well = grown_well m.library m.path q refl more (reverse m.path.choices.items) m.path.depth store h.well;
+      room = h.room;
+      counted = h.counted;
+      answers = few;
+      variables = h.variables;
+    }
+
+-- after a step
+pub stepped : (m : Machine) (b : Library) (p : Path) (left : ℕ) → IsMachine m → left + 1 ≡ m.left → b ≡ m.library → IsWell m.library p → p.depth ≤ m.path.depth + 1 → p.width ≡ m.path.width → IsMachine (record m { library = b; path = p; left = left })
+stepped m b p left h one same well low width = record {
+  library = subst IsLibrary (sym same) h.library;
+  table = h.table;
+  well = subst (λ l. IsWell l p) (sym same) well;
+  room = let room = h.room in omega (arith, room, low, one);
+  counted = let counted = h.counted in omega (arith, counted, one);
+  answers = h.answers;
+  variables = subst (λ w. All (λ v. v.number < w) m.variables.items) (sym width) h.variables;
+}

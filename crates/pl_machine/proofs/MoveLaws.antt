@@ -1,0 +1,107 @@
+-- The parts of moves, by what the moves of a run promise.
+use Rattle.std.proofs.Common.{◌≡◌, ℕ, suc, ◌+◌, ◌^◌, ◌<◌, List, [], ◌∷◌, ◌++◌, Option, Some, None, refl, sym, ap, ◌∙◌, subst, arith, length, map}
+use Rattle.pl_terms.specs.Trees.{Tree}
+use Rattle.pl_terms.specs.Order.{texts_of}
+use Rattle.pl_ops.specs.Standard.{standard}
+use Rattle.pl_ops.specs.Tables.{operator}
+use Rattle.search_theory.specs.Search.{Ans, Over, Failed, answers_of}
+use Rattle.search_theory.specs.Configurations.{Configuration, Turns, Tells}
+use Rattle.goal_model.specs.Table.{shown}
+use Rattle.goal_records.specs.declared.library.Library.{Library}
+use Rattle.goal_records.specs.declared.path.Path.{Path}
+use Rattle.goal_records.specs.Denotation.{language_of, state_of, template_of, point_here, search_at}
+use Rattle.goal_records.specs.Well.{IsWell}
+use Rattle.goal_moves.specs.declared.going.Going.{Going}
+use Rattle.goal_moves.specs.declared.going.Going.TheVariants.{On, Fails, Halts, Uncaught}
+use Rattle.goal_moves.specs.declared.walking.Stand.{Stand}
+use Rattle.goal_moves.specs.declared.walking.Stand.TheVariants as S
+use Rattle.goal_moves.specs.Moves.{Stays, StandsAt, Moved, Activated, answering}
+use Rattle.pl_unify.specs.State.{Extends}
+use Rattle.pl_machine.specs.declared.machine.Machine.{Machine}
+use Rattle.pl_machine.specs.Shown.{answer_shown}
+use Rattle.pl_machine.specs.Running.{Outcomes, Remains, Same, Went, stopped}
+use Rattle.pl_machine.specs.Parts.{IsSo, StandsSo, Failing, Searching, Answering, Awaits, first_at, Acted}
+use Rattle.pl_machine.proofs.EndLaws.{so_turned, stays_so, Rest, stays_rest}
+use Rattle.pl_machine.proofs.ShownLaws.{text-written, text-answer, answers-written}
+use Rattle.pl_machine.proofs.AnswerLaws.{tells_answer}
+
+-- how a machine's search goes on, by its field
+pub remains_at : (m : Machine) (g : Going) (r : Outcomes) → m.going ≡ g → Remains m r → Stays m.library (λ x. IsSo m.library x r) m.path m.left g
+remains_at m g r e h = subst (Stays m.library (λ x. IsSo m.library x r) m.path m.left) e h
+
+pub remains_of : (m : Machine) (g : Going) (r : Outcomes) → m.going ≡ g → Stays m.library (λ x. IsSo m.library x r) m.path m.left g → Remains m r
+remains_of m g r e h = subst (Stays m.library (λ x. IsSo m.library x r) m.path m.left) (sym e) h
+
+-- ---- where a move led
+
+pub moved_remains : (b : Library) (old new : Path) (x : ℕ → Configuration (language_of b)) (left : ℕ) (g : Going) (r : Outcomes) → Moved b old new x g → IsSo b (x left) r → Stays b (λ y. IsSo b y r) new left g
+moved_remains b old new x left g r m so = stays_so b (x left) new left g r so (m.goes left)
+
+-- a search that came to what stands first
+pub stands_first : (b : Library) (x : ℕ → Configuration (language_of b)) (p : Path) (stand : Stand) (left : ℕ) → StandsAt b x p stand → Turns (language_of b) (x left) (search_at b p (first_at b p stand) left)
+stands_first b x p (S.Code c st) left h = h.1 left
+stands_first b x p (S.Term goal st rest) left h = h.3 left
+stands_first b x p S.Fails left h = h left
+stands_first b x p S.Answers left h = h left
+
+pub came_first : (b : Library) (x : ℕ → Configuration (language_of b)) (p : Path) (stand : Stand) (left : ℕ) (r : Outcomes) → StandsAt b x p stand → IsSo b (x left) r → IsSo b (search_at b p (first_at b p stand) left) r
+came_first b x p stand left r h so = so_turned (language_of b) (x left) (search_at b p (first_at b p stand) left) r (stands_first b x p stand left h) so
+
+-- ---- an answer of the run
+
+pub went_answer : (old new : Machine) (before after line : List ℕ) (r : Outcomes)
+    → IsWell old.library old.path → old.path.template ≡ None → new.library ≡ old.library → new.path ≡ record old.path { store = new.path.store } → Extends (state_of old.path) (state_of new.path)
+    → new.left ≡ old.left → new.going ≡ Fails → new.answers ≡ stopped (old.answers + 1) → after ≡ before ++ line
+    → line ≡ answer_shown (operator standard) old.variables.items (map (texts_of old.library.names) (template_of (state_of old.path) old.path.width None))
+    → Answering old r → Went old new before after r
+went_answer old new before after line r well none library others more left going answers text is so =
+    let b : Library = old.library in
+    let told = tells_answer b old.path new.path well none others more old.left in
+    let rest : Rest b (Ans (template_of (state_of old.path) old.path.width None) ∷ []) new.path old.left Fails r =
+    stays_rest b (Ans (template_of (state_of old.path) old.path.width None) ∷ []) (answering b old.path old.left) new.path old.left Fails r so told in
+    let P : Library → ℕ → Type 0 = λ l k. Stays l (λ y. IsSo l y rest.rest) new.path k Fails in
+    let there : Stays b (λ y. IsSo b y rest.rest) new.path new.left Fails = subst (P b) (sym left) rest.stays in
+    record {
+      events = Ans (template_of (state_of old.path) old.path.width None) ∷ [];
+      rest = rest.rest;
+      remains = remains_of new Fails rest.rest going (subst (λ l. P l new.left) (sym library) there);
+      all = rest.all;
+      text = text ∙ ap (λ l. before ++ l) (is ∙ sym (text-answer old (template_of (state_of old.path) old.path.width None)));
+      answers = answers;
+    }
+
+-- ---- a goal that was activated
+
+pub acted_by : (old new : Machine) (stand : Stand) (p : Path) (x : ℕ → Configuration (language_of old.library)) (before after : List ℕ)
+    → Same old new → old.answers < 2 ^ 64 → new.answers ≡ old.answers → new.left + 1 ≡ old.left → ((k : ℕ) → x k ≡ search_at old.library old.path (first_at old.library old.path stand) (suc k))
+    → Activated old.library p new.path x before after new.going → Acted old stand new before after
+acted_by old new stand p x before after same few answers one starts a = record {
+  same = same;
+  bytes = a.bytes;
+  text = a.text;
+  went = λ r so.
+      let b : Library = old.library in
+      let next : old.left ≡ suc new.left = omega (arith, one) in
+      let here : IsSo b (x new.left) r = subst (λ y. IsSo b y r) (sym (starts new.left)) (subst (λ k. IsSo b (search_at b old.path (first_at b old.path stand) k) r) next so) in
+      let rest : Rest b (shown a.bytes) new.path new.left new.going r = stays_rest b (shown a.bytes) (x new.left) new.path new.left new.going r here (a.goes new.left) in
+      let P : Library → Type 0 = λ l. Stays l (λ y. IsSo l y rest.rest) new.path new.left new.going in
+      record {
+        events = shown a.bytes;
+        rest = rest.rest;
+        remains = subst P (sym same.0) rest.stays;
+        all = rest.all;
+        text = a.text ∙ ap (λ l. before ++ l) (sym (text-written old a.bytes));
+        answers = let none = ap length (answers-written a.bytes) in omega (arith, answers, few, none);
+      };
+}
+
+-- how many records there were changes nothing
+pub acted_noted : (old new : Machine) (stand : Stand) (before after : List ℕ) (peak : ℕ) → Acted old stand new before after → Acted old stand (record new { peak = peak }) before after
+acted_noted old new stand before after peak a = record {
+  same = a.same;
+  bytes = a.bytes;
+  text = a.text;
+  went = λ r so.
+      let w : Went old new before after r = a.went r so in
+      record { events = w.events; rest = w.rest; remains = w.remains; all = w.all; text = w.text; answers = w.answers };
+}

@@ -1,0 +1,30 @@
+use Rattle.std.proofs.Common.{◌≡◌, ◌+◌, ◌-◌, refl, sym, subst, arith}
+use Rattle.goal_records.specs.declared.path.Path.{Path}
+use Rattle.goal_records.specs.Denotation.{items_here}
+use Rattle.goal_moves.specs.declared.walking.Stand.TheVariants as S
+use Rattle.goal_moves.specs.Moves.{called, goal_items}
+use Rattle.pl_machine.specs.declared.machine.Machine.{Machine}
+use Rattle.pl_machine.specs.Parts.{Acted}
+use Rattle.pl_machine.proofs.MoveLaws.{acted_by}
+use Rattle.pl_machine.proofs.machine.Machine.enter.Goals as goal
+
+pub returns-in_ok-going-in-Code-clause-acted : goal.returns-in_ok-going-in-Code-clause-acted
+returns-in_ok-going-in-Code-clause-acted c =
+    let m : Machine = c.args.self.now in
+    let p : Path = record m.path { depth = m.path.depth + 1 } in
+    let new : Machine = record m { library = c.activate_code.new.library; path = c.activate_code.new.path; going = c.in_ok-going-in-Code.going; left = m.left - 1 } in
+    let one : m.left - 1 + 1 ≡ m.left = omega (arith, c.requires.left) in
+    subst (λ s. Acted m s new c.args.text.now c.activate_code.new.text) (sym c.in-Code.is)
+    (acted_by m new (S.Code c.in-Code.instruction c.in-Code.setting) p (called m.library p m.path.depth (items_here m.library p p.f p.pc)) c.args.text.now c.activate_code.new.text
+    (c.in_ok-going-in-Code.ensures.library, refl, refl) c.requires.machine.answers refl one (λ k. refl) c.in_ok-going-in-Code.ensures.activated)
+
+pub returns-in_ok-going-in-Term-clause-acted : goal.returns-in_ok-going-in-Term-clause-acted
+returns-in_ok-going-in-Term-clause-acted c =
+    let m : Machine = c.args.self.now in
+    let p : Path = record m.path { depth = m.path.depth + 1 } in
+    let new : Machine = record m { library = c.activate_term.new.library; path = c.activate_term.new.path; going = c.in_ok-going-in-Term.going; left = m.left - 1 } in
+    let one : m.left - 1 + 1 ≡ m.left = omega (arith, c.requires.left) in
+    subst (λ s. Acted m s new c.args.text.now c.activate_term.new.text) (sym c.in-Term.is)
+    (acted_by m new (S.Term c.in-Term.goal c.in-Term.setting c.in-Term.rest) p
+    (called m.library p m.path.depth (goal_items m.library p (record { goal = c.in-Term.goal; setting = c.in-Term.setting; rest = c.in-Term.rest; node = m.path.depth }))) c.args.text.now c.activate_term.new.text
+    (c.in_ok-going-in-Term.ensures.library, refl, refl) c.requires.machine.answers refl one (λ k. refl) c.in_ok-going-in-Term.ensures.activated)

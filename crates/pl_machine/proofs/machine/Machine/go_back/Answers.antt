@@ -1,0 +1,33 @@
+use Rattle.std.proofs.Common.{refl, subst}
+use Rattle.search_theory.specs.Search.{Over, Failed}
+use Rattle.goal_records.specs.Denotation.{search_at}
+use Rattle.goal_moves.specs.declared.going.Going.TheVariants.{Fails}
+use Rattle.goal_moves.specs.Moves.{Moved}
+use Rattle.pl_machine.specs.declared.machine.Machine.{Machine}
+use Rattle.pl_machine.proofs.EndLaws.{ended_failed}
+use Rattle.pl_machine.proofs.MachineLaws.{moved_machine}
+use Rattle.pl_machine.proofs.MoveLaws.{moved_remains}
+use Rattle.pl_machine.proofs.machine.Machine.go_back.Goals as goal
+
+pub returns-in-Fails-clause-did : goal.returns-in-Fails-clause-did
+returns-in-Fails-clause-did c text =
+    let m : Machine = c.args.self.now in
+    let x = search_at m.library m.path (Over Failed) in
+    let moved : Moved m.library m.path c.back.new.path x Fails = subst (Moved m.library m.path c.back.new.path x) c.in-Fails.is c.in_ok-going.ensures.moved in (
+      record { text = refl; same = (refl, refl, refl); answers = refl },
+      λ r so. ended_failed (record m { path = c.back.new.path }) m.library c.back.new.path r m.left refl (c.in_ok-going.ensures.ended c.in-Fails.is)
+          (moved_remains m.library m.path c.back.new.path x m.left Fails r moved so),
+    )
+
+pub returns-in_default : goal.returns-in_default
+returns-in_default c =
+    let m : Machine = c.args.self.now in
+    let moved = c.in_ok-going.ensures.moved in
+    record {
+      machine = moved_machine m c.back.new.path c.in_ok-going.going c.requires moved.well moved.low moved.width;
+      waits = tt;
+      did = λ text. (
+        record { text = refl; same = (refl, refl, refl); answers = refl },
+        λ r so. moved_remains m.library m.path c.back.new.path (search_at m.library m.path (Over Failed)) m.left c.in_ok-going.going r moved so,
+      );
+    }

@@ -1,0 +1,11 @@
+use Rattle.std.proofs.Common.{◌≡◌, ℕ, ◌≤◌}
+use Rattle.pl_machine.specs.Machine.{IsMachine}
+use Rattle.pl_machine.proofs.RunLaws.{SoFar}
+use Rattle.pl_machine.proofs.machine.Machine.run.Given as goal
+
+abbrev pub invariant-moves : goal.invariant-moves
+invariant-moves g l = record {
+  machine : IsMachine l.self;
+  so_far : SoFar l.fn.self l.self l.show (g.O.Sink.written l.fn.out) (g.O.Sink.written l.out);
+  later : g.O.Sink.faults l.fn.out ≤ g.O.Sink.faults l.out;
+}

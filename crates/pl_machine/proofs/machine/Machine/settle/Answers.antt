@@ -1,0 +1,28 @@
+use Rattle.std.proofs.Common.{subst}
+use Rattle.pl_machine.specs.declared.machine.Machine.{Machine}
+use Rattle.pl_machine.specs.declared.moves.Part.TheVariants as P
+use Rattle.pl_machine.specs.Running.{Remains}
+use Rattle.pl_machine.specs.Parts.{Did}
+use Rattle.pl_machine.proofs.WentLaws.{did_then, kept_then}
+use Rattle.pl_machine.proofs.machine.Machine.settle.Goals as goal
+
+pub returns-in_default : goal.returns-in_default
+returns-in_default c =
+    let m : Machine = c.args.self.now in
+    let l : Machine = c.parts.self in
+    record {
+      machine = c.in_ok-other.ensures.machine;
+      waits = c.in_ok-other.ensures.waits;
+      did = did_then (Remains m) (Remains l) m l c.part.new.self c.args.text.now c.parts.text c.part.new.text c.in_ok-other.other c.parts.invariant.kept c.parts.invariant.remains c.in_ok-other.ensures.did;
+    }
+
+pub parts-preserved : goal.parts-preserved
+parts-preserved c =
+    let m : Machine = c.args.self.now in
+    let l : Machine = c.parts.self in
+    let d : Did (Remains l) l c.part.new.self c.parts.text c.part.new.text P.Quiet = subst (Did (Remains l) l c.part.new.self c.parts.text c.part.new.text) c.in-Quiet.is c.in_ok-other.ensures.did in
+    record {
+      machine = c.in_ok-other.ensures.machine;
+      kept = kept_then m l c.part.new.self c.args.text.now c.parts.text c.part.new.text c.parts.invariant.kept d.0;
+      remains = λ r h. d.1 r (c.parts.invariant.remains r h);
+    }

@@ -1,0 +1,11 @@
+use Rattle.pl_machine.specs.Machine.{IsMachine}
+use Rattle.pl_machine.specs.Running.{Outcomes, Remains}
+use Rattle.pl_machine.specs.Parts.{Kept}
+use Rattle.pl_machine.proofs.machine.Machine.settle.Given as goal
+
+abbrev pub invariant-parts : goal.invariant-parts
+invariant-parts l = record {
+  machine : IsMachine l.self;
+  kept : Kept l.fn.self l.self l.fn.text l.text;
+  remains : (r : Outcomes) → Remains l.fn.self r → Remains l.self r;
+}
