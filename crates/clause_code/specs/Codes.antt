@@ -6,7 +6,7 @@ use Rattle.goal_model.specs.Program.{Clause}
 use Rattle.goal_code.specs.declared.shape.ControlNames.{ControlNames}
 use Rattle.goal_code.specs.Compiled.{Compiled}
 use Rattle.goal_code.specs.Runs.{IsBody}
-use Rattle.goal_code.specs.Settled.{is_settled}
+use Rattle.goal_code.specs.Settled.{is_settled, AreSettled}
 use Rattle.goal_frames.specs.Frames.{ClauseCode as BodyCode}
 use Rattle.pl_store.specs.Linked.{Entered, no_clause}
 use Rattle.clause_code.specs.declared.codes.ClauseCode.{ClauseCode}
@@ -27,6 +27,7 @@ pub record IsCoded (s : ControlNames) (c : Clause ℕ) (k : ClauseCode) : Type 0
   pub body_vars : k.body.vars ≡ c.width
   pub goals : IsBody s k.body.words k.goals.code k.goals.start c.body
   pub settled : is_settled s c.body ≡ true
+  pub each_settled : AreSettled s k.body.words k.goals.code
 
 abbrev pub no_layout : Layout
 no_layout = record { words = []; vars = 0 }

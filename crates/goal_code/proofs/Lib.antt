@@ -4,3 +4,4 @@ pub mod Compiling
 pub mod DenotationLaws
 pub mod ContinuationLaws
 pub mod SettledLaws
+pub mod SettledWork

@@ -49,6 +49,15 @@ at_within code (suc k) c h = let l : k < length code = get_within code k c h in 
 pub at_last : (code : List Instruction) (c : Instruction) → instruction_at (code ++ c ∷ []) (suc (length code)) ≡ Some c
 at_last code c = get_last code c
 
+-- the instruction at a place stood there, or was put last
+pub at_either : (code : List Instruction) (c : Instruction) (k : ℕ) (x : Instruction) → instruction_at (code ++ c ∷ []) k ≡ Some x → (instruction_at code k ≡ Some x) ⊎ (x ≡ c)
+at_either code c zero x h = cc
+at_either code c (suc k) x h = go (get_either code c k x h)
+  where
+    go : (slice_get code k ≡ Some x) ⊎ ((k ≡ length code) × (x ≡ c)) → (slice_get code k ≡ Some x) ⊎ (x ≡ c)
+    go (inl a) = inl a
+    go (inr b) = inr b.1
+
 -- a run begins with an instruction
 pub record Begins (ws : List CodeWord) (code : List Instruction) (stop pc : ℕ) (t : Tree ℕ) (ts : List (Tree ℕ)) : Type 0 where
   pub first : Instruction

@@ -15,9 +15,21 @@ use Rattle.goal_code.specs.Denotation.{AreControlNames, called}
 use Rattle.goal_code.specs.Settled.{is_settled, standing, IsRow, PartsSettled, RowsStay, GoalsStay}
 use Rattle.goal_code.proofs.DenotationLaws.{flat_are_goals}
 
-both-true : (a b : Bool) → a && b ≡ true → (a ≡ true) × (b ≡ true)
+pub both-true : (a b : Bool) → a && b ≡ true → (a ≡ true) × (b ≡ true)
 both-true true b h = (refl, h)
 both-true false b h = cc
+
+-- both sides of a settled arrow are settled
+pub arrow_parts : (s : ControlNames) (g : ℕ) (c t : Tree ℕ) → nat_eq g s.implication.0 ≡ true → is_settled s (comp g (cons c (cons t nil))) ≡ true → (is_settled s c ≡ true) × (is_settled s t ≡ true)
+arrow_parts s g c t e h = both-true (is_settled s c) (is_settled s t) (sym control ∙ h)
+  where
+    last : (a b : Bool) → (if (a || (b || true)) then is_settled s c && is_settled s t else true) ≡ is_settled s c && is_settled s t
+    last true b = refl
+    last false true = refl
+    last false false = refl
+
+    control : is_settled s (comp g (cons c (cons t nil))) ≡ is_settled s c && is_settled s t
+    control = ap (λ b. if (nat_eq g s.conjunction.0 || (nat_eq g s.disjunction.0 || b)) then is_settled s c && is_settled s t else true) e ∙ last (nat_eq g s.conjunction.0) (nat_eq g s.disjunction.0)
 
 module _ (bs : List (ℕ × Tree ℕ)) (base : ℕ) where
   abbrev ups : Trees ℕ → Trees ℕ
@@ -95,19 +107,11 @@ module _ (bs : List (ℕ × Tree ℕ)) (base : ℕ) where
           go : (b : Bool) → nat_eq g s.implication.0 ≡ b
               → HasRow (if b then if_then_else c t r else disjunction (comp g (cons c (cons t nil))) r) (either_row n (standing bs base (comp g (cons c (cons t nil)))) (standing bs base r))
           go true e =
-              let z = both-true (is_settled s c) (is_settled s t) (sym (control e) ∙ h) in (
+              let z = arrow_parts s g c t e h in (
                 ap (λ x. either_row n x (standing bs base r)) (up-two g c t)
                     ∙ ap (λ b. if b then if_then_else_row (standing bs base c) (standing bs base t) (standing bs base r) else either (comp g (cons (standing bs base c) (cons (standing bs base t) nil))) (standing bs base r)) (are.implication g ∙ e),
                 (z.0, z.1, k),
               )
-            where
-              last : (a b : Bool) → (if (a || (b || true)) then is_settled s c && is_settled s t else true) ≡ is_settled s c && is_settled s t
-              last true b = refl
-              last false true = refl
-              last false false = refl
-
-              control : nat_eq g s.implication.0 ≡ true → is_settled s (comp g (cons c (cons t nil))) ≡ is_settled s c && is_settled s t
-              control e = ap (λ b. if (nat_eq g s.conjunction.0 || (nat_eq g s.disjunction.0 || b)) then is_settled s c && is_settled s t else true) e ∙ last (nat_eq g s.conjunction.0) (nat_eq g s.disjunction.0)
           go false e = (
             ap (λ x. either_row n x (standing bs base r)) (up-two g c t)
                 ∙ (ap (λ b. if b then if_then_else_row (standing bs base c) (standing bs base t) (standing bs base r) else either (comp g (cons (standing bs base c) (cons (standing bs base t) nil))) (standing bs base r)) (are.implication g ∙ e)

@@ -1,12 +1,16 @@
 -- Bodies whose goals are known before they run: no variable stands where a control construct has a goal.
-use Rattle.std.specs.Prelude.{◌≡◌, ℕ, List, map, Bool, true, false, ◌&&◌, ◌||◌, nat_eq, if◌then◌else◌}
+use Rattle.std.specs.Prelude.{◌≡◌, ℕ, List, map, Bool, true, false, ◌&&◌, ◌||◌, Some, nat_eq, if◌then◌else◌}
 use Rattle.pl_terms.specs.Trees.{Tree, var, int, comp, nil, cons}
+use Rattle.pl_unify.specs.declared.code.CodeWord.{CodeWord}
+use Rattle.pl_unify.specs.Code.{code_tree}
 use Rattle.run_model.specs.Substitution.{apply, raise}
 use Rattle.builtin_model.specs.Naming.{Naming}
 use Rattle.goal_model.specs.Environments.{Environment}
 use Rattle.goal_model.specs.Bodies.{flat}
 use Rattle.goal_model.specs.Rows.{Row, commit, if_then_else as if_then_else_row, if_then as if_then_row, either, row_of}
+use Rattle.goal_code.specs.declared.instruction.Instruction.{Instruction}
 use Rattle.goal_code.specs.declared.shape.ControlNames.{ControlNames}
+use Rattle.goal_code.specs.Runs.{instruction_at, is_goal, goal_of}
 use Rattle.goal_code.specs.Shapes.{Shape, conjunction, disjunction, if_then_else, if_then, cut, other, shape_of, conjuncts}
 use Rattle.goal_code.specs.Denotation.{AreControlNames, called}
 
@@ -19,6 +23,14 @@ is_settled s (var v) = false
 is_settled s (int z) = false
 is_settled s (comp f (cons l (cons r nil))) = if is_control s f then is_settled s l && is_settled s r else true
 is_settled s t = true
+
+-- the term at a place is settled
+abbrev pub SettledAt : ControlNames → List CodeWord → ℕ → Type 0
+SettledAt s ws p = is_settled s (code_tree ws p) ≡ true
+
+-- the goals of instructions are settled
+abbrev pub AreSettled : ControlNames → List CodeWord → List Instruction → Type 0
+AreSettled s ws code = (k : ℕ) (c : Instruction) → instruction_at code k ≡ Some c → is_goal c ≡ true → SettledAt s ws (goal_of c)
 
 -- a term of a clause, as it stands in a run
 abbrev pub standing : List (ℕ × Tree ℕ) → ℕ → Tree ℕ → Tree ℕ

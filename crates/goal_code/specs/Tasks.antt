@@ -1,5 +1,6 @@
 -- What is left to compile, and what it leads to.
 use Rattle.std.specs.Prelude.{◌≡◌, ℕ, ◌+◌, ◌*◌, ◌<◌, ◌≤◌, List, [], ◌∷◌, ◌++◌, length, Some, None}
+use Rattle.std.specs.List.{All}
 use Rattle.pl_terms.specs.Trees.{Tree}
 use Rattle.pl_unify.specs.declared.code.CodeWord.{CodeWord}
 use Rattle.pl_unify.specs.Code.{code_tree}
@@ -11,6 +12,7 @@ use Rattle.goal_code.specs.declared.work.Task.TheVariants.{Goals, Left, Disjunct
 use Rattle.goal_code.specs.Shapes.{Shape, disjunction, if_then_else, if_then, shape_of, conjuncts}
 use Rattle.goal_code.specs.Parts.{Stands}
 use Rattle.goal_code.specs.Runs.{instruction_at, IsRun, Runs, EndsIf, IsSound}
+use Rattle.goal_code.specs.Settled.{SettledAt, AreSettled}
 
 -- how much is left to do, at most
 abbrev pub weight : List CodeWord → Task → ℕ
@@ -76,3 +78,18 @@ pub record UnderWay (s : ControlNames) (ws : List CodeWord) (final : List (Tree 
   pub run : IsRun ws code stop at goals
   pub awaits : Awaits s ws code final tasks stop goals
   pub sound : IsSound s ws code
+
+module _ (s : ControlNames) (ws : List CodeWord) where
+  -- the construct of a task is settled, and its parts that are still to be compiled
+  abbrev pub TaskSettled : Task → Type 0
+  TaskSettled (Goals p) = SettledAt s ws p
+  TaskSettled (Left g l n) = SettledAt s ws g × SettledAt s ws l
+  TaskSettled (Disjunction g r n) = SettledAt s ws g
+  TaskSettled (Then g c t n) = SettledAt s ws g × SettledAt s ws c × SettledAt s ws t
+  TaskSettled (Condition g c o n) = SettledAt s ws g × SettledAt s ws c
+  TaskSettled (Conditional g m o n) = SettledAt s ws g
+
+-- what is compiled and what is left to compile is settled
+pub record WorkSettled (s : ControlNames) (ws : List CodeWord) (code : List Instruction) (tasks : List Task) : Type 0 where
+  pub goals : AreSettled s ws code
+  pub left : All (TaskSettled s ws) tasks

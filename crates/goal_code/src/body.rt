@@ -1,7 +1,8 @@
 //! Bodies of clauses.
-ghost use Rattle.std.specs.Prelude.{◌≡◌, ◌<◌, length, IfOk};
+ghost use Rattle.std.specs.Prelude.{◌≡◌, ◌<◌, length, true, IfOk};
 ghost use Rattle.pl_unify.specs.Code.{last_tree};
 ghost use Rattle.goal_code.specs.Runs.{IsBody, instruction_at};
+ghost use Rattle.goal_code.specs.Settled.{is_settled, AreSettled};
 
 use crate::instruction::Instruction;
 use crate::shape::ControlNames;
@@ -30,7 +31,8 @@ impl Body {
     /// The instructions of the body whose term is the last one in the code of terms (ISO/IEC 13211-1, 7.6.2).
     pub fn of(alloc: Global, code: &Code, names: ControlNames) -> Result<Body, NoMemory>
         requires { 0 < length code.now.words }
-        ensures { IfOk result (λ b. IsBody names code.now.words b.code b.start (last_tree code.now.words)) }
+        ensures body { IfOk result (λ b. IsBody names code.now.words b.code b.start (last_tree code.now.words)) }
+        ensures settled { is_settled names (last_tree code.now.words) ≡ true → IfOk result (λ b. AreSettled names code.now.words b.code) }
     {
         let mut work = Work::begin(alloc, code.len() - 1, code, names)?;
         while let Some(task) = work.tasks.pop() {

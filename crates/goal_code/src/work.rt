@@ -1,9 +1,10 @@
 //! A body that is being compiled, from its last goal to its first.
-ghost use Rattle.std.specs.Prelude.{◌≡◌, ◌<◌, ◌∷◌, [], ℕ, List, IfOk, OnOk, reverse, length};
+ghost use Rattle.std.specs.Prelude.{◌≡◌, ◌<◌, ◌∷◌, [], ℕ, List, true, IfOk, OnOk, reverse, length};
 ghost use Rattle.pl_terms.specs.Trees.{Tree};
 ghost use Rattle.pl_unify.specs.Code.{code_tree};
 ghost use Rattle.goal_code.specs.Shapes.{body_goals};
-ghost use Rattle.goal_code.specs.Tasks.{TaskIn, UnderWay, owed};
+ghost use Rattle.goal_code.specs.Tasks.{TaskIn, UnderWay, WorkSettled, owed};
+ghost use Rattle.goal_code.specs.Settled.{is_settled};
 ghost use Rattle.goal_code.specs.Steps.{IsLed, IsAdded};
 
 use crate::instruction::Instruction;
@@ -72,7 +73,8 @@ impl Work {
         names: ControlNames,
     ) -> Result<Work, NoMemory>
         requires { p < length code.now.words }
-        ensures { IfOk result (λ w. UnderWay names code.now.words (body_goals names (code_tree code.now.words p)) w.instructions.items w.at (reverse w.tasks.items)) }
+        ensures under_way { IfOk result (λ w. UnderWay names code.now.words (body_goals names (code_tree code.now.words p)) w.instructions.items w.at (reverse w.tasks.items)) }
+        ensures settled { is_settled names (code_tree code.now.words p) ≡ true → IfOk result (λ w. WorkSettled names code.now.words w.instructions.items (reverse w.tasks.items)) }
     {
         let instructions = Vec::new(alloc);
         let mut tasks = Vec::new(alloc);
@@ -101,6 +103,7 @@ impl Work {
         requires { TaskIn code.now.words task }
         ensures goes { OnOk result ((final : List (Tree ℕ)) → UnderWay names code.now.words final self.old.instructions.items self.old.at (task ∷ reverse self.old.tasks.items) → UnderWay names code.now.words final self.new.instructions.items self.new.at (reverse self.new.tasks.items)) }
         ensures less { OnOk result (owed code.now.words (reverse self.new.tasks.items) < owed code.now.words (task ∷ reverse self.old.tasks.items)) }
+        ensures settled { OnOk result (WorkSettled names code.now.words self.old.instructions.items (task ∷ reverse self.old.tasks.items) → WorkSettled names code.now.words self.new.instructions.items (reverse self.new.tasks.items)) }
     {
         match task {
             Task::Goals(p) => self.compile(p, code, names),
@@ -172,6 +175,7 @@ impl Work {
         requires { p < length code.now.words }
         ensures goes { OnOk result ((final : List (Tree ℕ)) → UnderWay names code.now.words final self.old.instructions.items self.old.at (Task.Goals p ∷ reverse self.old.tasks.items) → UnderWay names code.now.words final self.new.instructions.items self.new.at (reverse self.new.tasks.items)) }
         ensures less { OnOk result (owed code.now.words (reverse self.new.tasks.items) < owed code.now.words (Task.Goals p ∷ reverse self.old.tasks.items)) }
+        ensures settled { OnOk result (WorkSettled names code.now.words self.old.instructions.items (Task.Goals p ∷ reverse self.old.tasks.items) → WorkSettled names code.now.words self.new.instructions.items (reverse self.new.tasks.items)) }
     {
         let next = self.at;
         match split(code, p, names) {

@@ -48,7 +48,8 @@ use Rattle.goal_moves.specs.declared.active.Active.{Active}
 use Rattle.goal_moves.specs.declared.going.Going.{Going}
 use Rattle.goal_moves.specs.Clauses.{IsProcedureOf, passed_goal}
 use Rattle.goal_moves.specs.Moves.{goal_items, called, thrown, IsReady}
-use Rattle.goal_moves.proofs.NextLaws.{stops_none, stops_some, procedure_of, from_here}
+use Rattle.goal_records.proofs.OpenRecords.{from_here}
+use Rattle.goal_moves.proofs.NextLaws.{stops_none, stops_some, procedure_of}
 use Rattle.goal_moves.proofs.AttemptLaws.{unfit_hopeless}
 use Rattle.goal_moves.proofs.TryLaws.{failed_over}
 use Rattle.goal_moves.proofs.AfterLaws.{moved_after}

@@ -14,6 +14,7 @@ use Rattle.pl_store.specs.Runs.{program_of}
 use Rattle.goal_code.specs.declared.instruction.Instruction.{Instruction}
 use Rattle.goal_code.specs.declared.instruction.Instruction.TheVariants as I
 use Rattle.goal_code.specs.Runs.{instruction_at, is_goal, next_of, goal_of, IsSound}
+use Rattle.goal_code.specs.Settled.{AreSettled}
 use Rattle.goal_code.specs.Continuations.{Running, call_of, follow, items_from}
 use Rattle.goal_code.proofs.ContinuationLaws.{items_follow}
 use Rattle.goal_frames.specs.declared.frames.Frame.{Frame}
@@ -53,11 +54,17 @@ module _ (b : Library) (p : Path) (c : Instruction) (st : Setting) (code : IsCod
     | inr ge ↦ absurd (no_instruction p.pc c (sym (ap (λ k. instruction_at k.goals.code p.pc) (get_or_past b.codes st.clause no_code ge)) ∙ code.code))
   ]
 
-  code_sound : IsLibrary b → IsSound b.constructs.names.control (bodies b st.clause).words (bodies b st.clause).code
+  pub code_sound : IsLibrary b → IsSound b.constructs.names.control (bodies b st.clause).words (bodies b st.clause).code
   code_sound library =
       let count = library.codes.count in
       let lt = clause_there in
       (library.codes.each st.clause (omega (arith, count, lt))).goals.sound
+
+  pub code_settled : IsLibrary b → AreSettled b.constructs.names.control (bodies b st.clause).words (bodies b st.clause).code
+  code_settled library =
+      let count = library.codes.count in
+      let lt = clause_there in
+      (library.codes.each st.clause (omega (arith, count, lt))).each_settled
 
   pub goal_there : IsLibrary b → goal_of c < length (bodies b st.clause).words
   goal_there library = ((code_sound library p.pc c code.code).1 code.goal).0

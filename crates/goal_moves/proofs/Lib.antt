@@ -4,6 +4,7 @@ pub mod ArgumentLaws
 pub mod ArgumentMoves
 pub mod AttemptLaws
 pub mod BackLaws
+pub mod BranchMoves
 pub mod CallLaws
 pub mod CatchLaws
 pub mod CatchMoves
@@ -31,6 +32,7 @@ pub mod StayLaws
 pub mod Steady
 pub mod TakeLaws
 pub mod TakenMoves
+pub mod TargetLaws
 pub mod ThinLaws
 pub mod ThrowLaws
 pub mod TryLaws

@@ -12,6 +12,7 @@ use Rattle.goal_records.specs.declared.library.Library.{Library}
 use Rattle.goal_records.specs.declared.path.Path.{Path}
 use Rattle.goal_records.specs.Denotation.{linked, clauses_on, state_of}
 use Rattle.goal_moves.specs.declared.user.Attempt.{Attempt}
+use Rattle.goal_records.proofs.OpenRecords.{from_here}
 use Rattle.goal_moves.specs.Clauses.{clauses_after, NothingFits, FitsNext}
 
 -- what holds of each place at which a test holds does so of the one that is found
@@ -41,16 +42,6 @@ pub procedure_of : (cs : List Entered) (p : ℕ) (key : Key ℕ) (k n : ℕ) →
 procedure_of cs p key k n is =
     found (nat_le k) (may_match p key) no_clause cs 0 n (λ j. (get_or cs j no_clause).procedure ≡ p) is
     (λ j lt e. subst (λ i. (get_or cs i no_clause).procedure ≡ p) (let s : j ≡ 0 + j = omega arith in s) (sym (eqb-true p (get_or cs j no_clause).procedure (both (nat_eq p (get_or cs j no_clause).procedure) (fits nat_eq key (get_or cs j no_clause).clause.head) e))))
-
-first_kept : (p : ℕ) (e : Entered) (es : List Entered) → e.procedure ≡ p → clauses_of p (e ∷ es) ≡ e.clause ∷ clauses_of p es
-first_kept p e es same = ap (λ b. map (λ (c : Entered). c.clause) (cond b (e ∷ filter (λ (c : Entered). nat_eq p c.procedure) es) (filter (λ (c : Entered). nat_eq p c.procedure) es))) (eq-eqb p e.procedure (sym same))
-
--- the clauses of a procedure from one of them on
-pub from_here : (cs : List Entered) (p c : ℕ) → c < length cs → (get_or cs c no_clause).procedure ≡ p → clauses_from_place cs p c ≡ clause_of cs c ∷ clauses_from_place cs p (c + 1)
-from_here cs p c lt same =
-    ap (clauses_of p) (drop-cons cs c no_clause lt)
-    ∙ first_kept p (get_or cs c no_clause) (drop (suc c) cs) same
-    ∙ ap (λ k. clause_of cs c ∷ clauses_of p (drop k cs)) (let s : suc c ≡ c + 1 = omega arith in s)
 
 pub clauses_first : (b : Library) (c : ℕ) → c < length (linked b).clauses → clauses_on (linked b) c ≡ (clause_at (linked b) c).clause ∷ clauses_after b c
 clauses_first b c lt = from_here (linked b).clauses (clause_at (linked b) c).procedure c lt refl
@@ -83,4 +74,5 @@ fits_next b p a c n key same is =
           (sym (from_here (linked b).clauses (clause_at (linked b) c).procedure n stop.within proc)
           ∙ ap (λ r. clauses_from_place (linked b).clauses r n) (sym proc));
       unfit = subst (λ k. any_fits k stop.skipped ≡ false) same stop.unfit;
+      fit = subst (λ k. fits nat_eq k (clause_at (linked b) n).clause.head ≡ true) same stop.fit;
     }

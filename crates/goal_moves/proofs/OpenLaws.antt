@@ -118,7 +118,7 @@ module _ (b : Library) (lib : IsLibrary b) (p q : Path) (a : Attempt) (c base : 
         let w = t.well.wide in
         omega (arith, vars, width, w);
     fit = subst (λ s. FramesFit s (take made.rest o.frames)) (sym back) (subst (FramesFit (state_of p)) (sym (whole made.rest o.frames made.put.put.placed)) (fits_in (state_of p) t.base frames_before));
-    kind = subst (λ s. KindFits (linked b) s (Clauses n a.goal) q.template) (sym back) (t.goal, (next.within, t.fits.1 ∙ ap (λ k. Some (Rattle.pl_store.specs.Linked.procedure_at (linked b) k).indicator) (sym next.same)));
+    kind = subst (λ s. KindFits (linked b) s (Clauses n a.goal) q.template) (sym back) (t.goal, (next.within, t.fits.1 ∙ ap (λ k. Some (Rattle.pl_store.specs.Linked.procedure_at (linked b) k).indicator) (sym next.same)), next.fit);
     template = subst (λ s. TemplateFits s q.template) (sym back) (subst (λ (y : Path). TemplateFits (state_of p) y.template) (sym others) t.well.template);
   }
 

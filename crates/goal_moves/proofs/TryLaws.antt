@@ -133,6 +133,7 @@ was_skipped b p q a c n others same t next h = record {
     base = subst (λ (s : State). a.setting.base ≤ s.next) (sym same) t.base;
     fits = subst (λ s. IsGoalOf (linked b) n (tree_at s a.goal)) (sym same) goal_of_next;
   };
+  state = same;
   later = next.later;
   choices = mid_choices b p q a c others more store t;
   depth = mid_depth b p q a c others more store t;

@@ -15,6 +15,7 @@ use Rattle.clause_code.specs.Codes.{code_at}
 use Rattle.goal_records.specs.declared.library.Library.{Library}
 use Rattle.goal_records.specs.declared.path.Path.{Path}
 use Rattle.goal_records.specs.Denotation.{linked, language_of, bodies, clauses_on, state_of, items_here}
+use Rattle.goal_records.specs.Well.{MayResolve}
 use Rattle.goal_model.specs.Rows.{name_of}
 use Rattle.goal_model.specs.Table.{arguments_in, goal_tree}
 use Rattle.goal_terms.specs.Goals.{arguments_of}
@@ -52,10 +53,12 @@ pub record FitsNext (b : Library) (p : Path) (a : Attempt) (c n : ℕ) : Type 0 
   pub skipped : List (Clause ℕ)
   pub split : clauses_after b c ≡ skipped ++ clauses_on (linked b) n
   pub unfit : any_fits (key_of (tree_at (state_of p) a.goal)) skipped ≡ false
+  pub fit : MayResolve (linked b) n (tree_at (state_of p) a.goal)
 
 -- a clause was not taken, and another one is next
 pub record WasSkipped (b : Library) (old new : Path) (a : Attempt) (c n : ℕ) : Type 0 where
   pub trying : IsTrying b new a n
+  pub state : state_of new ≡ state_of old
   pub later : c < n
   pub choices : new.choices ≡ old.choices
   pub depth : new.depth ≡ old.depth

@@ -18,11 +18,13 @@ ghost use Rattle.goal_moves.specs.Control.{Grew, GoalHere};
 ghost use Rattle.goal_moves.specs.Moves.{goal_items, called, thrown, tried, resumed, IsReady, IsTrying, Moved, Entered, here, IsCode, StandsAt, Activated};
 
 use crate::active::{Active, Rest};
+use crate::branching::{cut_from_code, either_from_code, if_from_code};
 use crate::collecting::collecting;
 use crate::control::{
     calling, catching, commit, either, from_context, if_then, if_then_else, in_module, negation,
     once, repeat, throwing,
 };
+use crate::goals::goal_from_code;
 use crate::going::Going;
 use crate::plain::do_row;
 use crate::user::call_procedure;
@@ -97,12 +99,33 @@ pub fn activate_code(
     ensures library { OnOk result (library.new ≡ library.old) }
     ensures activated { IfOk result (λ g. Activated library.old path.old path.new (called library.old path.old node (items_here library.old path.old path.old.f path.old.pc)) text.old text.new g) }
 {
-    let active = goal_here(library, path, instruction, setting, node)?;
-    activate_term(alloc, library, table, path, active, text)
+    match instruction {
+        Instruction::Goal { .. } => goal_from_code(
+            alloc,
+            library,
+            table,
+            path,
+            instruction,
+            setting,
+            node,
+            text,
+        ),
+        Instruction::Cut { next, .. } => Ok(cut_from_code(library, path, next, setting, node)),
+        Instruction::Either { left, right, .. } => {
+            either_from_code(library, path, left, right, setting, node)
+        }
+        Instruction::If {
+            condition,
+            otherwise,
+            next,
+            ..
+        } => if_from_code(library, path, condition, otherwise, next, setting, node),
+        Instruction::EndIf { .. } => unreachable!(),
+    }
 }
 
-// Puts the goal of an instruction, which stands first on the path, into the store.
-fn goal_here(
+/// Puts the goal of an instruction, which stands first on the path, into the store.
+pub(crate) fn goal_here(
     library: &Library,
     path: &mut Path,
     instruction: Instruction,
@@ -113,7 +136,8 @@ fn goal_here(
     requires well { IsWellWith library.now path.old (reverse path.old.choices.items) node }
     requires depth { path.old.depth ≡ node + 1 }
     requires code { IsCode library.now path.old instruction setting }
-    ensures { IfOk result (λ a. GoalHere library.now path.old path.new node a) }
+    ensures here { IfOk result (λ a. GoalHere library.now path.old path.new node a) }
+    ensures tree { IfOk result (λ a. tree_at (state_of path.new) a.goal ≡ code_tree_in (state_of path.old) setting.base (bodies library.now setting.clause).words (goal_of instruction)) }
 {
     let _frame = path.frames.get(path.f);
     let (f, pc) = path.frames.after(path.f, next_of(instruction));

@@ -28,7 +28,7 @@ use pl_unify::{Ref, View};
 use std::alloc::Global;
 
 // The setting with another depth to which cuts cut.
-fn reaching(setting: Setting, depth: usize) -> Setting
+pub(crate) fn reaching(setting: Setting, depth: usize) -> Setting
     ensures { result ≡ record setting { depth = depth } }
 {
     Setting { depth, ..setting }

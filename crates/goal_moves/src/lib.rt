@@ -4,9 +4,11 @@
 mod activation;
 mod active;
 mod backtracking;
+mod branching;
 mod collecting;
 mod control;
 mod enter;
+mod goals;
 mod going;
 mod plain;
 mod raising;

@@ -18,6 +18,7 @@ use pl_atoms::{Bytes, NoMemory};
 use pl_builtins::{Outcome, call};
 use pl_ops::OpTable;
 use pl_unify::{Ref, Store, View};
+use smallvec::SmallVec;
 use std::alloc::Global;
 
 /// Does what the built-in predicate of a row of the table of built-in procedures does. What it writes is put onto `text`.
@@ -46,7 +47,7 @@ pub fn do_row(
         &mut library.names,
         table,
         row,
-        &args,
+        args.as_slice(),
         caller,
         text,
     )?;
@@ -67,13 +68,13 @@ pub fn do_row(
     }
 }
 
-// The places of a goal's arguments.
-fn arguments(alloc: Global, store: &Store, goal: Ref) -> Result<Vec<Ref>, NoMemory>
+// The places of a goal's arguments, which take no memory of their own where they are few.
+fn arguments(alloc: Global, store: &Store, goal: Ref) -> Result<SmallVec<Ref, 8>, NoMemory>
     requires { IsRef store.now.state goal }
     ensures places { IfOk result (λ args. All (λ r. IsRef store.now.state r) args.items) }
     ensures trees { IfOk result (λ args. map (tree_at store.now.state) args.items ≡ listed (arguments_of (tree_at store.now.state goal))) }
 {
-    let mut args = Vec::new(alloc);
+    let mut args = SmallVec::new(alloc);
     let View::Comp(_, count) = store.view(goal) else {
         return Ok(args);
     };

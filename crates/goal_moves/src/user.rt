@@ -103,8 +103,8 @@ fn throw_unknown(
     raise(alloc, library, path, ball, active.rest)
 }
 
-// Activates a goal of a visible procedure.
-fn call_clauses(
+/// Activates a goal of a visible procedure.
+pub(crate) fn call_clauses(
     alloc: Global,
     library: &Library,
     path: &mut Path,
@@ -127,7 +127,7 @@ fn call_clauses(
         setting: body_setting(library, proc, active.setting.context, active.node),
         rest: active.rest,
     };
-    try_clauses(library, path, attempt, first)
+    try_from(library, path, attempt, key, first)
 }
 
 // The goal as its procedure gets it.
@@ -208,9 +208,27 @@ pub fn try_clauses(
     ensures moved { IfOk result (λ g. Moved library.now path.old path.new (tried library.now path.old attempt first.0) g) }
     ensures gone { IfOk result (λ g. g ≡ Fails → path.new.choices ≡ path.old.choices) }
 {
+    let key = key_of(&path.store, attempt.goal);
+    try_from(library, path, attempt, key, first)
+}
+
+// As `try_clauses`, with what is known of the goal's first argument.
+fn try_from(
+    library: &Library,
+    path: &mut Path,
+    attempt: Attempt,
+    key: Key,
+    first: ClauseId,
+) -> Result<Going, NoMemory>
+    requires library { IsLibrary library.now }
+    requires trying { IsTrying library.now path.old attempt first.0 }
+    requires key { key_view key ≡ goal_key (tree_at (state_of path.old) attempt.goal) }
+    ensures moved { IfOk result (λ g. Moved library.now path.old path.new (tried library.now path.old attempt first.0) g) }
+    ensures gone { IfOk result (λ g. g ≡ Fails → path.new.choices ≡ path.old.choices) }
+{
     let mut clause = first;
     loop {
-        match try_clause(library, path, attempt, clause)? {
+        match try_clause(library, path, attempt, key, clause)? {
             Tried::Taken => return Ok(Going::On),
             Tried::Gone => return Ok(Going::Fails),
             Tried::Next(next) => clause = next,
@@ -223,13 +241,14 @@ fn try_clause(
     library: &Library,
     path: &mut Path,
     attempt: Attempt,
+    key: Key,
     clause: ClauseId,
 ) -> Result<Tried, NoMemory>
     requires library { IsLibrary library.now }
     requires trying { IsTrying library.now path.old attempt clause.0 }
+    requires key { key_view key ≡ goal_key (tree_at (state_of path.old) attempt.goal) }
     ensures { IfOk result (λ t. WasTried library.now path.old path.new attempt clause.0 t) }
 {
-    let key = key_of(&path.store, attempt.goal);
     match library.tables.next(clause, key) {
         None => try_last(library, path, attempt, clause),
         Some(next) => try_one(library, path, attempt, clause, next),

@@ -3,3 +3,4 @@ pub mod RecordLaws
 pub mod PathLaws
 pub mod BindLaws
 pub mod BackLaws
+pub mod OpenRecords

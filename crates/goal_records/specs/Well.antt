@@ -1,14 +1,16 @@
 -- Paths that a run makes.
-use Rattle.std.specs.Prelude.{◌≡◌, ℕ, ◌+◌, ◌-◌, ◌<◌, ◌≤◌, List, [], ◌∷◌, length, take, reverse, Option, Some, None, is_some, true}
+use Rattle.std.specs.Prelude.{◌≡◌, ℕ, ◌+◌, ◌-◌, ◌<◌, ◌≤◌, List, [], ◌∷◌, length, take, reverse, nat_eq, Option, Some, None, is_some, true}
 use Rattle.pl_terms.specs.Trees.{Tree}
 use Rattle.pl_unify.specs.declared.word.Ref.{Ref}
 use Rattle.pl_unify.specs.declared.store.Mark.{Mark}
 use Rattle.pl_unify.specs.State.{State, state_at, tree_at, IsRef, IsMark, IsStore}
+use Rattle.goal_model.specs.Choices.{key_of, fits, choices}
 use Rattle.pl_store.specs.Linked.{Linked, procedure_at, clause_at}
 use Rattle.pl_store.specs.Rules.{indicator_of}
 use Rattle.pl_store.specs.Facts.{IsLinked}
 use Rattle.goal_terms.specs.Constructs.{AreConstructs}
 use Rattle.clause_code.specs.Codes.{IsCodes}
+use Rattle.goal_targets.specs.Targets.{AreTargets}
 use Rattle.goal_frames.specs.declared.frames.Frame.{Frame}
 use Rattle.goal_frames.specs.Frames.{FramesFit}
 use Rattle.goal_records.specs.declared.choice.Choice.{Choice}
@@ -16,13 +18,14 @@ use Rattle.goal_records.specs.declared.choice.ChoiceKind.{ChoiceKind}
 use Rattle.goal_records.specs.declared.choice.ChoiceKind.TheVariants.{Clauses, Branch, Catch, Collect}
 use Rattle.goal_records.specs.declared.library.Library.{Library}
 use Rattle.goal_records.specs.declared.path.Path.{Path}
-use Rattle.goal_records.specs.Denotation.{outer_of, state_of, linked, naming}
+use Rattle.goal_records.specs.Denotation.{outer_of, state_of, linked, naming, frames_on}
 
 -- a library as a run needs it
 pub record IsLibrary (b : Library) : Type 0 where
   pub facts : IsLinked (linked b)
   pub constructs : AreConstructs (naming b) b.constructs
   pub codes : IsCodes b.constructs.names.control (linked b).clauses b.codes
+  pub targets : AreTargets b.constructs b.tables b.codes b.targets
 
 -- the term that is collected is one of the store
 abbrev pub TemplateFits : State → Option Ref → Type 0
@@ -33,9 +36,14 @@ TemplateFits s (Some r) = IsRef s r
 abbrev pub IsGoalOf : Linked → ℕ → Tree ℕ → Type 0
 IsGoalOf l c t = (c < length l.clauses) × (indicator_of t ≡ Some (procedure_at l (clause_at l c).procedure).indicator)
 
--- the places of a record are those of the state of its mark; within a nested search a term is collected
+-- the clause's first argument can unify with the goal's
+abbrev pub MayResolve : Linked → ℕ → Tree ℕ → Type 0
+MayResolve l c t = fits nat_eq (key_of t) (clause_at l c).clause.head ≡ true
+
+-- The places of a record are those of the state of its mark, and what it has untried can be taken; within a nested search a term is
+-- collected.
 abbrev pub KindFits : Linked → State → ChoiceKind → Option Ref → Type 0
-KindFits l s (Clauses clause goal) t = IsRef s goal × IsGoalOf l clause.0 (tree_at s goal)
+KindFits l s (Clauses clause goal) t = IsRef s goal × IsGoalOf l clause.0 (tree_at s goal) × MayResolve l clause.0 (tree_at s goal)
 KindFits l s Branch t = Unit {0}
 KindFits l s (Catch name catcher recovery) t = IsRef s catcher × IsRef s recovery
 KindFits l s (Collect list outer) t = IsRef s list × (is_some t ≡ true)
@@ -90,3 +98,8 @@ IsWell b p = IsWellWith b p (reverse p.choices.items) p.depth
 abbrev pub floor_of : List Choice → ℕ
 floor_of [] = 0
 floor_of (c ∷ cs) = c.rest
+
+-- as many nodes of the search have something untried as there are records
+abbrev pub RecordsAreOpen : Type 0
+RecordsAreOpen = (b : Library) (p : Path) (d : ℕ) → IsWellWith b p (reverse p.choices.items) d
+    → choices nat_eq (frames_on b p (reverse p.choices.items)) ≡ length p.choices.items

@@ -13,6 +13,7 @@ use Rattle.unit_model.specs.Directives.{Text}
 use Rattle.goal_model.specs.Program.{Program}
 use Rattle.pl_store.specs.Facts.{IsLinked}
 use Rattle.pl_store.specs.Linked.{Linked, with_names}
+use Rattle.link_program.specs.Linking.{program_of_facts}
 use Rattle.mod_linker.specs.Linking.{SaysSameFurther}
 use Rattle.goal_text.specs.Faults.{IsFault}
 use Rattle.goal_text.specs.Goals.{VariableNames, IsGoal, IsGoalFault, GoalsAreDecided}
@@ -44,7 +45,7 @@ module _ (us : List (Facts Text)) (budget : ℕ) (goal : List ℕ) (show : Show)
   same-bytes : (r : Outcomes) → bytes_of show term r ≡ bytes_by show (events_text pairs r)
   same-bytes r = ap (λ vs. bytes_by show (events_shown (operator standard) vs r.events)) (sym (variables-of-pairs term.names))
 
-  pub ends-so : (old new : Option (List ℕ)) (f : Finished) → Appends old new (bytes_of show term run) → IsFinished budget f run → Ends us budget goal show old new (G.Ended f)
+  pub ends-so : (old new : Option (List ℕ)) (f : Finished) → Appends old new (bytes_of show term run) → IsFinished (program_of_facts us) budget f run → Ends us budget goal show old new (G.Ended f)
   ends-so old new f put finished = (texts_of names term.term, pairs, is, subst (Appends old new) (same-bytes run) put, finished)
 
   -- a front of what this goal puts is one of what any reading of the text puts
@@ -60,9 +61,9 @@ module _ (us : List (Facts Text)) (budget : ℕ) (goal : List ℕ) (show : Show)
 
 -- a run under the program's own names is one under equal names
 module _ (l m : Linked) (same : l ≡ m) (term : ReadTerm) (budget : ℕ) where
-  pub finished-under : (f : Finished) → ((q : Program Text) → Says l q → IsFinished budget f (run_by q l.names term budget))
-      → (q : Program Text) → Says m q → IsFinished budget f (run_by q m.names term budget)
-  finished-under f = subst (λ (k : Linked). (q : Program Text) → Says k q → IsFinished budget f (run_by q k.names term budget)) same
+  pub finished-under : (f : Finished) → ((q : Program Text) → Says l q → IsFinished q budget f (run_by q l.names term budget))
+      → (q : Program Text) → Says m q → IsFinished q budget f (run_by q m.names term budget)
+  finished-under f = subst (λ (k : Linked). (q : Program Text) → Says k q → IsFinished q budget f (run_by q k.names term budget)) same
 
   pub put-under : (show : Show) (P : List ℕ → Type 0) → ((q : Program Text) → Says l q → P (bytes_of show term (run_by q l.names term budget)))
       → (q : Program Text) → Says m q → P (bytes_of show term (run_by q m.names term budget))

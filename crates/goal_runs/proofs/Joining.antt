@@ -19,8 +19,9 @@ use Rattle.goal_model.specs.Program.{Program}
 use Rattle.goal_model.specs.Run.{run_of}
 use Rattle.naming_laws.specs.SameRun.{event_by, SameRun, SaysSame, RunsByTexts}
 use Rattle.pl_store.specs.Facts.{IsLinked}
-use Rattle.pl_store.specs.Linked.{Linked, with_names}
+use Rattle.pl_store.specs.Linked.{Linked}
 use Rattle.pl_store.specs.Runs.{program_of}
+use Rattle.goal_records.specs.declared.library.Library.{Library}
 use Rattle.goal_records.specs.Denotation.{linked, naming}
 use Rattle.prep_report.specs.declared.end.End2.{End2}
 use Rattle.prep_report.specs.Lines.{end_text}
@@ -31,9 +32,14 @@ use Rattle.pl_machine.specs.Shown.{events_shown}
 use Rattle.pl_machine.specs.Starting.{IsStart}
 use Rattle.pl_machine.specs.Running.{Ran, Remains, Outcomes as NumberOutcomes, shown_by, bytes_by, stopped}
 use Rattle.goal_runs.specs.Ends.{end_shown, manner, manner_of}
-use Rattle.goal_runs.specs.Runs.{Outcomes, IsFinished, Says, run_by, bytes_of}
+use Rattle.goal_runs.specs.Runs.{Outcomes, SaysWhat, IsFinished, Says, run_by, bytes_of}
 use Rattle.goal_runs.proofs.Ends.{end-shown, manner-by}
 use Rattle.goal_runs.proofs.Texts.{answers-by}
+
+-- the machine says what the program says
+pub same-program : SaysSameFurther → (l : Linked) (goal : ReadTerm) (budget : ℕ) (m : Machine) (q : Program Text) → IsLinked l → IsStart l goal budget m → Says l q → SaysWhat m q
+same-program law l goal budget m q ordered start says =
+    subst (λ k. SaysSame m.library.names (program_of k) q) (sym start.tables) (law l m.library.names q ordered start.names start.written.distinct says.0 says.1)
 
 -- the run over the program's numbers is the run over their texts
 module _ (law : SaysSameFurther) (runs : RunsByTexts) where
@@ -41,8 +47,7 @@ module _ (law : SaysSameFurther) (runs : RunsByTexts) where
       → NamesBelow (length l.names) goal.term → Says l q
       → SameRun (text_of m.library.names) (run_of (naming m.library) nat_eq (program_of (linked m.library)) goal.term budget) (run_by q l.names goal budget)
   same-run l goal budget m q ordered start below says =
-      let further : SaysSame m.library.names (program_of (with_names l m.library.names)) q = law l m.library.names q ordered start.names start.written.distinct says.0 says.1 in
-      let there : SaysSame m.library.names (program_of (linked m.library)) q = subst (λ k. SaysSame m.library.names (program_of k) q) (sym start.tables) further in
+      let there = same-program law l goal budget m q ordered start says in
       subst (λ t. SameRun (text_of m.library.names) (run_of (naming m.library) nat_eq (program_of (linked m.library)) goal.term budget) (run_of by_texts same_text q t budget))
       (texts_of-front l.names m.library.names start.names goal.term below)
       (runs m.library.names (program_of (linked m.library)) q start.written there goal.term budget
@@ -56,8 +61,10 @@ module _ (old : Machine) (r : NumberOutcomes) (q : Outcomes) (same : SameRun (te
       ∙ ap (λ es. bytes_by show (events_shown (operator standard) vs es)) same.events
 
   -- and the end is the end over texts
-  pub same-end : (budget : ℕ) (new : Machine) (e : End2) → old.budget ≡ budget → old.answers ≡ 0 → Ran old new e r → IsFinished budget (record { machine = new; end = e }) q
-  same-end budget new e all none ran = record {
+  pub same-end : (p : Program Text) (budget : ℕ) (new : Machine) (e : End2) → SaysWhat old p → old.budget ≡ budget → old.answers ≡ 0 → Ran old new e r
+      → IsFinished p budget (record { machine = new; end = e }) q
+  same-end p budget new e says all none ran = record {
+    program = subst (λ (b : Library). SaysSame b.names (program_of (linked b)) p) (sym ran.same.0) says;
     shown =
         ap (λ b. end_text (operator standard) b.names e) ran.same.0
         ∙ ap (end_text (operator standard) old.library.names) ran.ended
@@ -80,9 +87,10 @@ module _ (law : SaysSameFurther) (runs : RunsByTexts) (l : Linked) (goal : ReadT
   whole = run_of (naming m.library) nat_eq (program_of (linked m.library)) goal.term budget
 
   pub ended : (new : Machine) (e : End2) → ((r : NumberOutcomes) → Remains m r → Ran m new e r)
-      → (q : Program Text) → Says l q → IsFinished budget (record { machine = new; end = e }) (run_by q l.names goal budget)
+      → (q : Program Text) → Says l q → IsFinished q budget (record { machine = new; end = e }) (run_by q l.names goal budget)
   ended new e ran q says =
-      same-end m whole (run_by q l.names goal budget) (same-run law runs l goal budget m q ordered start below says) budget new e start.budget start.answers (ran whole start.remains)
+      same-end m whole (run_by q l.names goal budget) (same-run law runs l goal budget m q ordered start below says) q budget new e
+      (same-program law l goal budget m q ordered start says) start.budget start.answers (ran whole start.remains)
 
   pub put : (show : Show) (P : List ℕ → Type 0) → ((r : NumberOutcomes) → Remains m r → P (shown_by m show r.events))
       → (q : Program Text) → Says l q → P (bytes_of show goal (run_by q l.names goal budget))

@@ -16,10 +16,12 @@ use Rattle.goal_model.specs.Run.{run_of}
 use Rattle.naming_laws.specs.SameRun.{SaysSame}
 use Rattle.pl_store.specs.Linked.{Linked}
 use Rattle.pl_store.specs.Runs.{program_of}
+use Rattle.goal_records.specs.Denotation.{linked}
 use Rattle.mod_linker.specs.Linking.{SaysNothingElse}
 use Rattle.link_program.specs.Linking.{program_of_facts}
 use Rattle.goal_text.specs.Goals.{IsGoal, IsGoalFault}
 use Rattle.prep_report.specs.Lines.{end_text}
+use Rattle.pl_machine.specs.declared.machine.Machine.{Machine}
 use Rattle.pl_machine.specs.declared.run.Show.{Show}
 use Rattle.pl_machine.specs.Shown.{events_shown}
 use Rattle.pl_machine.specs.Machine.{IsMachine}
@@ -62,8 +64,13 @@ pub data Shows (us : List (Facts Text)) (budget : ℕ) (goal : List ℕ) (show :
   no_goal : (n byte : ℕ) → IsGoalFault goal n byte → Shows us budget goal show []
   a_goal : (t : Tree Text) (names : List (Text × ℕ)) → IsGoal goal t names → Shows us budget goal show (bytes_by show (events_text names (run_over us t budget)))
 
--- a machine has come to the end of a run
-pub record IsFinished (budget : ℕ) (f : Finished) (r : Outcomes) : Type 0 where
+-- the program of a machine says what this one says
+abbrev pub SaysWhat : Machine → Program Text → Type 0
+SaysWhat m q = SaysSame m.library.names (program_of (linked m.library)) q
+
+-- a machine over this program has come to the end of a run
+pub record IsFinished (q : Program Text) (budget : ℕ) (f : Finished) (r : Outcomes) : Type 0 where
+  pub program : SaysWhat f.machine q
   pub shown : end_text (operator standard) f.machine.library.names f.end ≡ end_shown (operator standard) r.ended
   pub manner : manner f.end ≡ manner_of r.ended
   pub steps : f.machine.budget - f.machine.left ≡ budget - r.left
@@ -74,7 +81,7 @@ abbrev pub Ends : List (Facts Text) → ℕ → List ℕ → Show → Option (Li
 Ends us budget goal show old new (G.NoGoal n byte) = IsGoalFault goal n byte × Keeps old new
 Ends us budget goal show old new (G.Ended f) =
     (t : Tree Text) × (names : List (Text × ℕ)) × IsGoal goal t names
-    × Appends old new (bytes_by show (events_text names (run_over us t budget))) × IsFinished budget f (run_over us t budget)
+    × Appends old new (bytes_by show (events_text names (run_over us t budget))) × IsFinished (program_of_facts us) budget f (run_over us t budget)
 
 -- a machine that can be asked
 abbrev pub HasMachine : GoalEnd → Type 0

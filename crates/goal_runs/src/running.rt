@@ -126,7 +126,7 @@ fn run_term<O: Sink>(
     requires below { NamesBelow (length program.names) goal.now.term }
     requires linked { IsLinked program }
     requires further { SaysSameFurther }
-    ensures finished { IfOk result (λ f. (q : ProgramOf Text) → Says program q → IsFinished budget f (run_by q program.names goal.now budget)) }
+    ensures finished { IfOk result (λ f. (q : ProgramOf Text) → Says program q → IsFinished q budget f (run_by q program.names goal.now budget)) }
     ensures shown { OnOk result ((q : ProgramOf Text) → Says program q → Appends (O.written out.old) (O.written out.new) (bytes_of show goal.now (run_by q program.names goal.now budget))) }
     ensures front { OnErr result ((q : ProgramOf Text) → Says program q → AppendsFront (O.written out.old) (O.written out.new) (bytes_of show goal.now (run_by q program.names goal.now budget))) }
     ensures machine { IfOk result (λ f. IsMachine f.machine) }

@@ -8,3 +8,4 @@ pub mod ConjunctLaws
 pub mod ListLaws
 pub mod ConversionLaws
 pub mod CallingLaws
+pub mod KindLaws

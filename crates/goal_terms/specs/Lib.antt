@@ -5,3 +5,4 @@ pub mod Conjuncts
 pub mod Balls
 pub mod Conversion
 pub mod Calling
+pub mod Kinds

@@ -7,6 +7,7 @@ mod calling;
 mod conjunction;
 mod constructs;
 mod conversion;
+mod kind;
 pub mod laws;
 mod list;
 mod names;
@@ -14,5 +15,6 @@ mod row;
 
 pub use calling::Called;
 pub use constructs::Constructs;
+pub use kind::Kind;
 pub use names::GoalNames;
 pub use row::GoalRow;

@@ -82,7 +82,7 @@ impl Constructs {
     }
 
     // Whether a name with so many arguments is `call` with a goal and up to seven arguments more.
-    fn is_call(&self, name: NameId, arity: u8) -> bool
+    pub(crate) fn is_call(&self, name: NameId, arity: u8) -> bool
         ensures { result ≡ is_call (nat_eq name.0 self.now.names.call.0) arity }
     {
         let named = name.0 == self.names().call.0;
@@ -129,7 +129,7 @@ impl Constructs {
 }
 
 // What an atom is.
-fn atom_row(place: Option<usize>) -> GoalRow
+pub(crate) fn atom_row(place: Option<usize>) -> GoalRow
     ensures row { (n : Naming ℕ) (s : State) (at : Ref) (f : ℕ) → tree_at s at ≡ atom f → IsPlaceOf n f 0 place → IsRow n s at result }
     ensures places { (s : State) → HasPlaces s result }
 {
@@ -177,7 +177,7 @@ fn ternary_row(store: &Store, goal: Ref, name: NameId, place: Option<usize>) -> 
 }
 
 // What a compound of another number of arguments is that is no call.
-fn other_row(place: Option<usize>) -> GoalRow
+pub(crate) fn other_row(place: Option<usize>) -> GoalRow
     ensures row { (n : Naming ℕ) (s : State) (at : Ref) (name : NameId) (k : ℕ) → root (tree_at s at) ≡ View.Comp name k → k ≢ 1 → k ≢ 2 → k ≢ 3 → IsPlaceOf n name.0 k place → IsNoCall n name.0 k → IsRow n s at result }
     ensures places { (s : State) → HasPlaces s result }
 {

@@ -61,6 +61,8 @@ holds-kept us names xs rs l m s h = record {
   table = s.names ∙ h.table;
   modules = λ k lt. h.modules k lt ∙ ap (λ (ms : List ℕ). is_system names k || list_any (nat_eq k) ms) (sym s.modules);
   others = h.others;
+  module_count = ap length s.modules ∙ h.module_count;
+  procedure_count = ap length s.procedures ∙ h.procedure_count;
   enters = enters-kept l m xs xs s.procedures s.clauses h.enters;
 }
 
@@ -117,6 +119,8 @@ module _ (us : List (Facts Text)) (names : List Text) (xs : List (Said ℕ)) (m 
     is-link = record {
       says_same = subst (λ (ns : List Text). SaysSame ns (program_of m) (program_of_facts us)) (sym holds.table) same;
       apart = subst (λ (ns : List Text). SaysNothingElse ns (program_of_facts us)) (sym holds.table) nothing-else;
+      modules = holds.module_count;
+      procedures = holds.procedure_count;
     }
 
 -- from what the parts of the code ensure

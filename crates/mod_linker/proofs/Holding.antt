@@ -1,7 +1,7 @@
 -- A program with the modules and entries of units holds what they say.
-use Rattle.std.proofs.Common.{◌≡◌, ℕ, ◌<◌, List, [], ◌∷◌, length, map, Bool, true, false, not, ◌&&◌, ◌||◌, nat_eq, refl, sym, ap, subst, ◌∙◌, arith, position}
+use Rattle.std.proofs.Common.{◌≡◌, ℕ, ◌<◌, List, [], ◌∷◌, length, map, fold, Bool, true, false, not, ◌&&◌, ◌||◌, nat_eq, refl, sym, ap, subst, ◌∙◌, arith, position}
 use Rattle.std.specs.Prelude.{codes}
-use Rattle.std.specs.List.{AllByRecursion, flat_map, list_any}
+use Rattle.std.specs.List.{AllByRecursion, flat_map, filter_map, list_any}
 use Rattle.std.specs.Map.{lookup}
 use Rattle.std.proofs.lemmas.List.Folds.{list_any-append}
 use Rattle.pl_atoms.specs.Names.{same_text, AreDistinct}
@@ -9,6 +9,7 @@ use Rattle.unit_model.specs.Facts.{Facts}
 use Rattle.unit_model.specs.Directives.{Text}
 use Rattle.unit_model.specs.Encoding.{text_at}
 use Rattle.unit_model.specs.Preparing.{Interface}
+use Rattle.unit_model.specs.Validity.{keeps_rules}
 use Rattle.preparing_model.specs.Known.{interfaces_of}
 use Rattle.link_model.specs.Places.{user, system}
 use Rattle.link_model.specs.Seeing.{exists}
@@ -20,14 +21,16 @@ use Rattle.link_faults.proofs.Lookups.{or_false}
 use Rattle.link_faults.proofs.Repeating.{same_text-flip}
 use Rattle.mod_linker.specs.declared.items.Item.{Item}
 use Rattle.mod_linker.specs.declared.key.Key.{Key}
-use Rattle.mod_linker.specs.Entering.{Enters, Takes}
-use Rattle.mod_linker.specs.Holding.{HasEntries}
+use Rattle.mod_linker.specs.Counting.{with_one}
+use Rattle.mod_linker.specs.Entering.{defined, same_numbers, defined_said, Enters, Takes}
+use Rattle.mod_linker.specs.Holding.{AreSaids, HasEntries}
 use Rattle.mod_linker.specs.Items.{items_view, AreItems}
 use Rattle.mod_linker.specs.Keys.{ind_of, same_key, AreKnown, AreDeclared}
 use Rattle.mod_linker.specs.Linking.{is_among}
-use Rattle.mod_linker.specs.Modules.{module_texts, AddsModules}
+use Rattle.mod_linker.specs.Modules.{module_texts, AreModules, with_module_text, AddsModules}
 use Rattle.mod_linker.proofs.Among.{not-same}
 use Rattle.mod_linker.proofs.Arities.{items-below}
+use Rattle.mod_linker.proofs.Counting.{modules-many, procedures-many}
 
 -- ---- before the first entry
 
@@ -71,6 +74,10 @@ module _ (us : List (Facts Text)) (names : List Text) where
       exists-by (same_text t user) (same_text t system) (list_any (λ (i : Interface). same_text i.of t) (flat_map interfaces_of us))
       ∙ ap (λ b. is_system names m || b) (sym (a.modules distinct m lt ∙ ap (λ b. not (is_system names m) && (same_text t user || b)) (any-modules t us)))
 
+  modules-are : (p l : Linked) → p ≡ with_names empty names → AddsModules (codes "user" ∷ flat_map module_texts us) p l → AreDistinct names → AreModules l (fold with_module_text [] (user ∷ flat_map module_texts us))
+  modules-are p l is added distinct =
+      (subst (λ (q : Linked). AddsModules (codes "user" ∷ texts) q l) is added).named distinct [] (record { below = tt; texts = refl })
+
   none-same : (m : Text) (ts : List Text) → is_among names m ≡ false → AllByRecursion (λ t. is_among names t ≡ true) ts → list_any (same_text m) ts ≡ false
   none-same m [] none h = refl
   none-same m (t ∷ ts) none h = ap (λ b. b || list_any (same_text m) ts) (not-same names m t none h.0) ∙ none-same m ts none h.1
@@ -107,17 +114,21 @@ module _ (us : List (Facts Text)) (names : List Text) where
 
   -- ---- all of it
 
-  pub entered-holds : (p l m : Linked) (items : List Item) (table : List (Key × List Bool)) (known : List (Key × ℕ)) → AreDistinct names → is_among names (codes "user") ≡ true → AllByRecursion (λ t. is_among names t ≡ true) (flat_map module_texts us)
+  pub entered-holds : (p l m : Linked) (items : List Item) (table : List (Key × List Bool)) (known : List (Key × ℕ)) → AreDistinct names → AllByRecursion (λ f. keeps_rules f ≡ true) us → is_among names (codes "user") ≡ true → AllByRecursion (λ t. is_among names t ≡ true) (flat_map module_texts us)
       → p ≡ with_names empty names → AddsModules (codes "user" ∷ flat_map module_texts us) p l → AreItems names items → map (said_by (text_at names)) (items_view items) ≡ said us → AreDeclared (items_view items) table
       → Takes (items_view items) table l m known → HasEntries us names m known
-  entered-holds p l m items table known distinct first rest is added good same declared takes =
+  entered-holds p l m items table known distinct rules first rest is added good same declared takes =
+      let saids : AreSaids us names (items_view items) = record { texts = same; below = items-below names items good } in
       record {
         entries = items_view items;
-        saids = record { texts = same; below = items-below names items good };
+        saids = saids;
         holds = record {
           table = takes.keeps.names ∙ names-are p l is added;
           modules = λ k lt. modules-hold p l is added distinct k lt ∙ ap (λ (ms : List ℕ). is_system names k || list_any (nat_eq k) ms) (sym takes.keeps.modules);
           others = others-hold first rest;
+          module_count = ap length takes.keeps.modules ∙ modules-many us l rules (modules-are p l is added distinct);
+          procedure_count = procedures-many names distinct us (items_view items) m.procedures saids
+              (takes.procedures ∙ ap (λ (ps : List Procedure). fold (with_one same_numbers) (map defined ps) (filter_map defined_said (items_view items))) (none-there p l is added));
           enters = takes.enters (items_view items) [] declared (enters-start l (items_view items) (none-there p l is added));
         };
         rows = takes.keeps.rows ∙ added.rows ∙ ap (λ (q : Linked). q.rows) is;

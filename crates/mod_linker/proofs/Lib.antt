@@ -2,6 +2,7 @@ pub mod Positions
 pub mod Saying
 pub mod Growing
 pub mod Gathering
+pub mod Counting
 pub mod Modular
 pub mod Mapping
 pub mod Defined

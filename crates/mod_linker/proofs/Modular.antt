@@ -1,9 +1,10 @@
 -- Names and modules of a program, one after another.
-use Rattle.std.proofs.Common.{◌≡◌, ℕ, suc, ◌+◌, ◌<◌, List, [], ◌∷◌, ◌++◌, length, take, get_or, slice_get, Bool, true, false, not, ◌&&◌, ◌||◌, cond, nat_eq, eqb, eqb-true, refl, sym, ap, subst, ◌∙◌, arith, Some}
+use Rattle.std.proofs.Common.{◌≡◌, ℕ, suc, ◌+◌, ◌<◌, List, [], ◌∷◌, ◌++◌, length, take, get_or, slice_get, map, fold, Bool, true, false, not, ◌&&◌, ◌||◌, cond, nat_eq, eqb, eqb-true, refl, sym, ap, subst, ◌∙◌, arith, Some}
 use Rattle.std.specs.Prelude.{codes}
 use Rattle.std.specs.List.{list_any}
 use Rattle.std.proofs.lemmas.List.{take_more, length-take, get_or-take}
 use Rattle.std.proofs.lemmas.List.Folds.{list_any-append}
+use Rattle.std.proofs.lemmas.List.Sums.{fold-append}
 use Rattle.std.proofs.lemmas.Option.{slice_get_within, get_or_from_slice_get}
 use Rattle.pl_atoms.specs.Names.{same_text, with_text, AreDistinct}
 use Rattle.pl_atoms.proofs.Texts.{same_text-is}
@@ -12,7 +13,9 @@ use Rattle.unit_model.specs.Directives.{Text}
 use Rattle.unit_model.specs.Encoding.{text_at}
 use Rattle.pl_store.specs.Linked.{Linked, is_system, is_module, with_module}
 use Rattle.link_faults.proofs.Lookups.{or_false, any_insert, same_number}
-use Rattle.mod_linker.specs.Modules.{AddsModules}
+use Rattle.mod_linker.specs.Counting.{with_one}
+use Rattle.mod_linker.specs.Modules.{AreModules, with_module_text, AddsModules}
+use Rattle.mod_linker.proofs.Counting.{all-one, one-by}
 
 -- ---- names in their order
 
@@ -54,6 +57,7 @@ adds-none l = record {
   clauses = refl;
   rows = refl;
   modules = λ distinct n lt. sym (ap (λ b. is_module l n || b) (and_false (not (is_system l.names n))) ∙ or_false (is_module l n));
+  named = λ distinct before h. h;
 }
 
 pub adds-more : (xs ys : List Text) (l m k : Linked) → AddsModules xs l m → AddsModules ys m k → AddsModules (xs ++ ys) l k
@@ -71,6 +75,9 @@ adds-more xs ys l m k p q = record {
       ∙ or_assoc (is_module l n) (not (is_system l.names n) && list_any (same_text (text_at l.names n)) xs) (not (is_system l.names n) && list_any (same_text (text_at l.names n)) ys)
       ∙ ap (λ b. is_module l n || b) (and_or (not (is_system l.names n)) (list_any (same_text (text_at l.names n)) xs) (list_any (same_text (text_at l.names n)) ys)
       ∙ ap (λ b. not (is_system l.names n) && b) (sym (list_any-append (same_text (text_at l.names n)) xs ys)));
+  named = λ distinct before h.
+      subst (AreModules k) (sym (fold-append with_module_text before xs ys))
+      (q.named (subst AreDistinct (sym p.names) distinct) (fold with_module_text before xs) (p.named distinct before h));
 }
 
 module _ (l : Linked) (text : Text) (id : ℕ) (known : list_any (same_text text) l.names ≡ true) (there : slice_get (with_text l.names text) id ≡ Some text) where
@@ -106,6 +113,24 @@ module _ (l : Linked) (text : Text) (id : ℕ) (known : list_any (same_text text
       ∙ ap (λ x. is_module l n || x) (is_its_number distinct n lt)
       ∙ sym (ap (λ x. is_module l n || (not (is_system l.names n) && x)) (or_false (same_text (text_at l.names n) text)) ∙ ap (λ x. is_module l n || x) (let_in n s (same_text (text_at l.names n) text) refl))
 
+  same_name : AreDistinct l.names → (a b : ℕ) → a < length l.names → b < length l.names → same_text (text_at l.names a) (text_at l.names b) ≡ nat_eq a b
+  same_name distinct a b ha hb = same_number l.names distinct a b ha hb
+
+  named_with : AreDistinct l.names → (before : List Text) → AreModules l before → (b : Bool)
+      → AreModules (record l { modules = cond b l.modules (with_one nat_eq l.modules id) }) (cond b before (with_one same_text before text))
+  named_with distinct before h true = record { below = h.below; texts = h.texts }
+  named_with distinct before h false = record {
+    below = all-one nat_eq (λ k. k < length l.names) id l.modules within h.below;
+    texts = one-by nat_eq same_text (text_at l.names) (λ k. k < length l.names) (same_name distinct) id l.modules within h.below
+        ∙ ap (λ ts. with_one same_text ts (text_at l.names id)) h.texts ∙ ap (with_one same_text before) text_is;
+  }
+
+  named_one : AreDistinct l.names → (before : List Text) → AreModules l before → AreModules (with_module l text id) (with_module_text before text)
+  named_one distinct before h =
+      let b = same_text text (codes "system") in
+      subst (λ (ns : List Text). AreModules (record l { names = ns; modules = cond b l.modules (with_one nat_eq l.modules id) }) (cond b before (with_one same_text before text)))
+      (sym names_same) (named_with distinct before h b)
+
   pub adds-one : AddsModules (text ∷ []) l (with_module l text id)
   adds-one = record {
     names = names_same;
@@ -113,4 +138,5 @@ module _ (l : Linked) (text : Text) (id : ℕ) (known : list_any (same_text text
     clauses = refl;
     rows = refl;
     modules = λ distinct n lt. added distinct n lt (same_text text (codes "system")) refl;
+    named = named_one;
   }

@@ -17,11 +17,11 @@ use Rattle.link_program.specs.Saying.{Said, said_by, head_indicator, same_indica
 use Rattle.link_faults.proofs.Lookups.{same_number}
 use Rattle.mod_linker.specs.Holding.{SaidBelow}
 
-count-all_renamed : {N M : Type 0} (f : N → M) (ts : Trees N) → count (all_renamed f ts) ≡ count ts
+pub count-all_renamed : {N M : Type 0} (f : N → M) (ts : Trees N) → count (all_renamed f ts) ≡ count ts
 count-all_renamed f nil = refl
 count-all_renamed f (cons t ts) = ap suc (count-all_renamed f ts)
 
-cons-map : {A B : Type 0} (f : A → B) (o : Option A) (xs : List A) → cons_option (option_map f o) (map f xs) ≡ map f (cons_option o xs)
+pub cons-map : {A B : Type 0} (f : A → B) (o : Option A) (xs : List A) → cons_option (option_map f o) (map f xs) ≡ map f (cons_option o xs)
 cons-map f None xs = refl
 cons-map f (Some x) xs = refl
 

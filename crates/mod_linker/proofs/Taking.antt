@@ -1,6 +1,6 @@
 -- Procedures and entries of a program that takes them, by what the code knows.
-use Rattle.std.proofs.Common.{slice_index, arith, ◌≡◌, ℕ, ◌+◌, ◌<◌, ◌^◌, List, [], ◌∷◌, ◌++◌, length, take, get_or, Bool, true, nat_eq, refl, sym, ap, subst, ◌∙◌, Option, Some, None}
-use Rattle.std.specs.List.{AllByRecursion}
+use Rattle.std.proofs.Common.{slice_index, arith, ◌≡◌, ℕ, ◌+◌, ◌<◌, ◌^◌, List, [], ◌∷◌, ◌++◌, length, take, get_or, map, fold, Bool, true, nat_eq, refl, sym, ap, subst, ◌∙◌, Option, Some, None}
+use Rattle.std.specs.List.{AllByRecursion, cons_option}
 use Rattle.std.specs.Map.{lookup}
 use Rattle.std.proofs.lemmas.List.{map-append}
 use Rattle.pl_terms.specs.Trees.{Tree, var, int, atom, comp, count, renamed}
@@ -23,8 +23,10 @@ use Rattle.mod_linker.specs.declared.items.Item.{Item}
 use Rattle.mod_linker.specs.declared.key.Key.{Key}
 use Rattle.mod_linker.specs.Items.{item_view, items_view, IsNarrow, IsItem, AreItems}
 use Rattle.mod_linker.specs.Keys.{same_key, AreKnown}
-use Rattle.mod_linker.specs.Entering.{HaveArity, Provides, Takes}
+use Rattle.mod_linker.specs.Counting.{with_one}
+use Rattle.mod_linker.specs.Entering.{defined, same_numbers, defined_said, HaveArity, Provides, Takes}
 use Rattle.mod_linker.proofs.Clausing.{clause_is}
+use Rattle.mod_linker.proofs.Counting.{head-defined}
 use Rattle.mod_linker.proofs.Growing.{enters-clause, enters-other}
 use Rattle.mod_linker.proofs.Providing.{takes-more}
 
@@ -60,13 +62,15 @@ takes-clause l m n linked home i table p known c q head grown =
     subst (λ (w : Linked). Takes (said_of home (clause c.width c.head c.body) ∷ []) table l w known) (sym grown) (record {
       keeps = record { names = q.keeps.names; modules = q.keeps.modules; rows = q.keeps.rows };
       known = q.known;
+      procedures = q.procedures ∙ sym (ap (λ o. fold (with_one same_numbers) (map defined l.procedures) (cons_option o [])) (head-defined home c.head i head));
       enters = λ all done d h. enters-clause m linked p q.within c home q.home_is (head ∙ ap Some q.indicator) all done (q.enters all done d h);
     })
 
-pub takes-other : (l : Linked) (x : Said ℕ) (table : List (Key × List Bool)) (known : List (Key × ℕ)) → AreKnown l known → ((d : ℕ) (i : Indicator ℕ) → clause_in nat_eq d i x.of x.what ≡ None) → Takes (x ∷ []) table l l known
-takes-other l x table known k none = record {
+pub takes-other : (l : Linked) (x : Said ℕ) (table : List (Key × List Bool)) (known : List (Key × ℕ)) → AreKnown l known → ((d : ℕ) (i : Indicator ℕ) → clause_in nat_eq d i x.of x.what ≡ None) → defined_said x ≡ None → Takes (x ∷ []) table l l known
+takes-other l x table known k none nothing = record {
   keeps = record { names = refl; modules = refl; rows = refl };
   known = k;
+  procedures = sym (ap (λ o. fold (with_one same_numbers) (map defined l.procedures) (cons_option o [])) nothing);
   enters = λ all done d h. enters-other l all done x none h;
 }
 
@@ -113,6 +117,19 @@ pub no-clause : (x : Item) → ((n : ℕ) (h b : Tree ℕ) → x.what.now ≡ Cl
 no-clause x h d i = by x.what.now refl
   where
     by : (w : What) → x.what.now ≡ w → clause_in nat_eq d i x.home.0 (what_by (slice_index x.remap.now) (what_view w)) ≡ None
+    by (Export j) e = refl
+    by (ReexportAll m) e = refl
+    by (Reexport m j) e = refl
+    by (Meta s ms) e = refl
+    by (Operator o) e = refl
+    by (ImportAll m) e = refl
+    by (Import m j) e = refl
+    by (Clause n t u) e = absurd (h n t u e)
+
+pub no-procedure : (x : Item) → ((n : ℕ) (h b : Tree ℕ) → x.what.now ≡ Clause n h b → ⊥) → defined_said (item_view x) ≡ None
+no-procedure x h = by x.what.now refl
+  where
+    by : (w : What) → x.what.now ≡ w → defined_said (said_of x.home.0 (what_by (slice_index x.remap.now) (what_view w))) ≡ None
     by (Export j) e = refl
     by (ReexportAll m) e = refl
     by (Reexport m j) e = refl

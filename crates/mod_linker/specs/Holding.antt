@@ -12,6 +12,7 @@ use Rattle.pl_store.specs.Linked.{Linked, is_system, is_module}
 use Rattle.mod_linker.specs.declared.key.Key.{Key}
 use Rattle.mod_linker.specs.Keys.{AreKnown}
 use Rattle.mod_linker.specs.Entering.{Enters}
+use Rattle.mod_linker.specs.Counting.{linked_modules, linked_procedures}
 use Rattle.mod_linker.specs.Linking.{is_among}
 
 -- the names of an entry are below a number
@@ -28,6 +29,8 @@ pub record HoldsEntries (us : List (Facts Text)) (names : List Text) (xs : List 
   pub table : l.names ≡ names
   pub modules : (m : ℕ) → m < length names → exists us (text_at names m) ≡ (is_system names m || is_module l m)
   pub others : (m : Text) → is_among names m ≡ false → exists us m ≡ same_text m (codes "system")
+  pub module_count : length l.modules ≡ length (linked_modules us)
+  pub procedure_count : length l.procedures ≡ length (linked_procedures us)
   pub enters : Enters xs xs l
 
 -- it does, and its procedures are known, and nothing is visible yet

@@ -6,5 +6,6 @@ pub mod Entering
 pub mod Modules
 pub mod Rowing
 pub mod Showing
+pub mod Counting
 pub mod Linking
 pub mod Holding

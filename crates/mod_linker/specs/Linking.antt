@@ -1,5 +1,5 @@
 -- Units that link.
-use Rattle.std.specs.Prelude.{◌≡◌, List, [], codes, Bool, false, ◌&&◌, Option, None, Some}
+use Rattle.std.specs.Prelude.{◌≡◌, List, [], length, codes, Bool, false, ◌&&◌, Option, None, Some}
 use Rattle.std.specs.List.{list_any}
 use Rattle.pl_atoms.specs.Names.{same_text, AreDistinct, IsFront}
 use Rattle.unit_model.specs.Facts.{Indicator, Facts}
@@ -11,6 +11,7 @@ use Rattle.pl_store.specs.Linked.{Linked, with_names}
 use Rattle.pl_store.specs.Facts.{IsLinked}
 use Rattle.pl_store.specs.Runs.{program_of}
 use Rattle.link_program.specs.Linking.{program_of_facts}
+use Rattle.mod_linker.specs.Counting.{linked_modules, linked_procedures}
 use Rattle.mod_linker.specs.declared.fault.LinkFault.{LinkFault}
 use Rattle.mod_linker.specs.declared.fault.LinkFault.TheVariants.{Fault as LinkFaultOf, NoMemory}
 
@@ -29,10 +30,13 @@ pub record SaysNothingElse (names : List Text) (q : Program Text) : Type 0 where
   pub modes : (d : Text) (i : Indicator Text) → are_among names d i ≡ false → q.modes d i ≡ None
   pub clauses : (d : Text) (i : Indicator Text) → are_among names d i ≡ false → q.clauses d i ≡ []
 
--- the program says what the units say, and the units say nothing of other names than the program's
+-- The program says what the units say, and the units say nothing of other names than the program's.
+-- Its modules and its procedures are as many as those of the units.
 pub record IsLinkOf (us : List (Facts Text)) (l : Linked) : Type 0 where
   pub says_same : SaysSame l.names (program_of l) (program_of_facts us)
   pub apart : SaysNothingElse l.names (program_of_facts us)
+  pub modules : length l.modules ≡ length (linked_modules us)
+  pub procedures : length l.procedures ≡ length (linked_procedures us)
 
 -- a program says the same under a table that has more names
 abbrev pub SaysSameFurther : Type 0

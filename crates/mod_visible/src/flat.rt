@@ -46,12 +46,12 @@ fn push_sections(
     ensures { OnOk result (places_view entries.new.items ≡ places_view entries.old.items ++ places.places_from unit 0 (map (section_by (slice_index remap.now)) (map section_view sections.now))) }
 {
     for (number, section) in sections.iter().enumerate() {
-        let module = remap.get(section.module);
+        let home = remap.get(section.module);
         push_entries(
             entries,
             unit,
             number,
-            module,
+            home,
             section.entries.as_slice(),
             remap,
         )?;
@@ -63,12 +63,12 @@ fn push_entries(
     out: &mut Vec<Placed>,
     unit: usize,
     section: usize,
-    module: NameId,
+    home: NameId,
     entries: &[Entry],
     remap: &Remap,
 ) -> Result<(), NoMemory>
     requires { AllByRecursion (EntryFits (length remap.now)) entries.now }
-    ensures { OnOk result (places_view out.new.items ≡ places_view out.old.items ++ map (places.place_of unit section module.0) (map (entry_by (slice_index remap.now)) (entries_view entries.now))) }
+    ensures { OnOk result (places_view out.new.items ≡ places_view out.old.items ++ map (places.place_of unit section home.0) (map (entry_by (slice_index remap.now)) (entries_view entries.now))) }
 {
     for entry in entries {
         let role = role_of(&entry.what, remap);
@@ -76,7 +76,7 @@ fn push_entries(
             unit,
             section,
             byte: entry.byte,
-            module,
+            module: home,
             role,
         })?;
     }

@@ -9,6 +9,7 @@ ghost use Rattle.goal_records.specs.Well.{IsLibrary};
 
 use clause_code::Codes;
 use goal_records::Library;
+use goal_targets::Targets;
 use goal_terms::Constructs;
 use pl_atoms::{Names, NoMemory};
 use pl_builtin_ends::add_names;
@@ -59,7 +60,8 @@ fn written() -> &'static [&'static [u8]]
     &WRITTEN
 }
 
-/// Takes a program apart, puts the names that a run needs into its table, and compiles the bodies of its clauses.
+/// Takes a program apart, puts the names that a run needs into its table, and compiles the bodies of its clauses,
+/// whose goals are looked up.
 pub fn library_of(alloc: Global, program: Program) -> Result<Library, NoMemory>
     ensures library { IfOk result (λ b. IsLibrary b) }
     ensures names { IfOk result (λ b. IsFront program.names b.names) }
@@ -74,11 +76,13 @@ pub fn library_of(alloc: Global, program: Program) -> Result<Library, NoMemory>
     let _count = names.len();
     facts_stay();
     let codes = Codes::of(alloc, &names, &tables, constructs.control())?;
+    let targets = Targets::of(alloc, &tables, &codes, &constructs)?;
     Ok(Library {
         names,
         tables,
         codes,
         constructs,
+        targets,
     })
 }
 

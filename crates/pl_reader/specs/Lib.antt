@@ -7,5 +7,3 @@ pub mod Moves
 pub mod Numbering
 pub mod CodeTexts
 pub mod Reads
-pub mod Simple
-pub mod SimpleSteps

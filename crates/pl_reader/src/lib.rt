@@ -7,13 +7,11 @@ mod laws;
 mod machine;
 mod prefix;
 mod reading;
-mod simple;
 mod tokens_taken;
 mod variables;
 
 pub use laws::{one_tree, one_tree_of_tokens, reading_is_decided, root_is_told};
 pub use reading::{ReadFault, read};
-pub use simple::{SimpleFault, is_closed, read_simple, read_simple_goal};
 
 #[cfg(test)]
 mod tests;

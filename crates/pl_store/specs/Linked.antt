@@ -84,11 +84,11 @@ may_match p key c = nat_eq p c.procedure && fits nat_eq key c.clause.head
 
 -- ---- how a program grows
 
--- the modules, with this one last unless it is there
 -- no modules
 abbrev pub empty : Linked
 empty = record { names = []; modules = []; procedures = []; clauses = []; rows = [] }
 
+-- the modules, with this one last unless it is there
 abbrev pub with_number : List ℕ → ℕ → List ℕ
 with_number ms m = if list_any (nat_eq m) ms then ms else ms ++ m ∷ []
 

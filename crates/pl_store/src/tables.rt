@@ -230,6 +230,14 @@ impl Tables {
         (clause.vars, &clause.head, &clause.body)
     }
 
+    /// The procedure of a clause.
+    pub fn owner(&self, clause: ClauseId) -> ProcId
+        requires { clause.0 < length self.now.clauses }
+        ensures { result.0 ≡ (clause_at self.now clause.0).procedure }
+    {
+        self.clauses[clause.0].proc
+    }
+
     /// Whether there is a module of this name. `system` always exists.
     pub fn exists(&self, names: &Names, name: NameId) -> bool
         requires { name.0 < length names.now }

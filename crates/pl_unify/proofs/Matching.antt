@@ -22,11 +22,14 @@ use Rattle.run_model.specs.Unifier.IsClash.{names, counts, int_comp, atom_comp}
 use Rattle.pl_unify.specs.Steps.{OnlyBinds, pair_span, equations}
 use Rattle.pl_unify.specs.Load.{WordsIn}
 use Rattle.pl_unify.specs.Code.{plain, no_code, code_base, code_tree, code_tree_in, IsCode, CodeIn}
+use Rattle.pl_unify.specs.declared.store.head.Met.{Met}
+use Rattle.pl_unify.specs.declared.store.head.Met.TheVariants as M
+use Rattle.pl_unify.specs.Spans.{IsMet}
 use Rattle.pl_unify.specs.Match.{SolvedBy, Matched, Matching, Born, applied, after, PairsIn, code_equations, code_equation, code_weight, head_equations}
 use Rattle.run_model.proofs.Replaced.{apply-comp}
 use Rattle.pl_unify.proofs.Grown.{length-bases_nil}
 use Rattle.pl_unify.proofs.Shapes.{tree_of_word-shape, apply_all-trees, count-trees, count-args, length-places}
-use Rattle.pl_unify.proofs.Solving.{pairs-span, pair_trees, reverse-push_pair}
+use Rattle.pl_unify.proofs.Solving.{pairs-span, pair_trees}
 use Rattle.run_model.proofs.MguProofs.{size_pos}
 use Rattle.pl_unify.proofs.Walk.{tree_at-places}
 use Rattle.pl_unify.proofs.Low.{absent-new, free-new}
@@ -187,23 +190,20 @@ built-answer s mid s' w built b ws p ok g h e ans = go ok ans
         (d.bound ∙ ap (λ bs. bs ++ d.unifier) g.bound)
     go false d = subst (λ es. Solved es None) sides d
 
--- an equation that is solved whole leaves nothing on the list
-pub matched_solved : (s s' : State) (b : ℕ) (ws : List CodeWord) (w : Word) (p : ℕ) (work : List (ℕ × ℕ)) → SolvedBy s s' (code_equation s b ws w p) → Matched s s' b ws w p work work
-matched_solved s s' b ws w p work d = record {
+-- an equation that is solved whole leaves nothing
+matched_solved : (s s' : State) (b : ℕ) (ws : List CodeWord) (w : Word) (p : ℕ) → SolvedBy s s' (code_equation s b ws w p) → Matched s s' b ws w p []
+matched_solved s s' b ws w p d = record {
   extends = d.extends;
   unifier = d.unifier;
   bound = d.bound;
-  pushed = [];
-  list = refl;
   below = tt;
   smaller = size_pos (code_tree ws p);
   reduces = λ es r h. then d.solved es r h;
 }
 
-pub matched_answer : (s s' : State) (b : ℕ) (ws : List CodeWord) (w : Word) (p : ℕ) (work : List (ℕ × ℕ)) (ok : Bool) → Answer s s' (code_equation s b ws w p) ok
-    → MatchBool ok (Matched s s' b ws w p work work) (Solved (code_equation s b ws w p) None)
-matched_answer s s' b ws w p work true d = matched_solved s s' b ws w p work d
-matched_answer s s' b ws w p work false d = d
+pub met_answer : (s s' : State) (b : ℕ) (ws : List CodeWord) (w : Word) (p : ℕ) (yes : Bool) (m : Met) → MatchBool yes (m ≡ M.Done) (m ≡ M.Clash) → Answer s s' (code_equation s b ws w p) yes → IsMet s s' b ws w p m
+met_answer s s' b ws w p true m e d = subst (IsMet s s' b ws w p) (sym e) (matched_solved s s' b ws w p d)
+met_answer s s' b ws w p false m e d = subst (IsMet s s' b ws w p) (sym e) d
 
 -- the trees of the code's places in a state
 abbrev pub code_places : State → ℕ → List CodeWord → List (Tree ℕ)
@@ -262,9 +262,9 @@ weight-span ws first second (suc k) h =
     omega (arith, weight-span ws (first + 1) (second + 1) k (omega arith), ap (λ xs. sizes (trees (take (suc k) xs))) (drop_more (code_base ws) second (var 0) low))
 
 -- two compounds of one name and arity: their arguments are still to be solved
-pub matched_parts : (s : State) (b : ℕ) (ws : List CodeWord) (vars : ℕ) (w : Word) (p : ℕ) (work new : List (ℕ × ℕ)) (k : ℕ) (f : NameId) (place first from : ℕ)
-    → IsCode ws vars → p < length ws → K.Comp k f first from ≡ get_or ws p no_code → Found s w (Comp k f place) → reverse new ≡ pair_span place first k ++ reverse work → Matched s s b ws w p work new
-matched_parts s b ws vars w p work new k f place first from code h e found pushed =
+pub matched_parts : (s : State) (b : ℕ) (ws : List CodeWord) (vars : ℕ) (w : Word) (p : ℕ) (k : ℕ) (f : NameId) (place first from : ℕ)
+    → IsCode ws vars → p < length ws → K.Comp k f first from ≡ get_or ws p no_code → Found s w (Comp k f place) → Matched s s b ws w p (pair_span place first k)
+matched_parts s b ws vars w p k f place first from code h e found =
     let within : CodeIn ws vars p (K.Comp k f first from) = subst (CodeIn ws vars p) (sym e) (code.words_in p h) in
     let low : first + k ≤ length ws = omega (arith, within.1) in
     let ts : Trees ℕ = trees (take k (drop place (places s))) in
@@ -277,8 +277,6 @@ matched_parts s b ws vars w p work new k f place first from code h e found pushe
       extends = Extends-refl s;
       unifier = [];
       bound = sym (append-nil (bound s));
-      pushed = pair_span place first k;
-      list = pushed;
       below = pairs-in (length s.cells) (length ws) place first k found.within.0 low;
       smaller = omega (arith, weight-span ws place first k low, ap size (code_tree-at ws vars p code h ∙ ap (λ x. word_tree (code_base ws) (plain x)) (sym e)));
       reduces = λ es r y.
@@ -329,57 +327,55 @@ weight-append : (ws : List CodeWord) (xs ys : List (ℕ × ℕ)) → code_weight
 weight-append ws [] ys = omega arith
 weight-append ws (x ∷ xs) ys = omega (arith, weight-append ws xs ys)
 
-pub matching_start : (s s' : State) (b : ℕ) (ws : List CodeWord) (w : Word) (p : ℕ) (old new : List (ℕ × ℕ)) → old ≡ [] → Matched s s' b ws w p old new
-    → Matching s s' b ws (code_equation s b ws w p) (code_equations s' b ws (reverse new)) × PairsIn (length s'.cells) (length ws) (reverse new)
-matching_start s s' b ws w p old new none m =
-    let list : reverse new ≡ m.pushed = m.list ∙ (ap (λ x. m.pushed ++ reverse x) none ∙ append-nil m.pushed) in (
-      record {
-        extends = m.extends;
-        unifier = m.unifier;
-        bound = m.bound;
-        reduces = λ r h. m.reduces [] r (subst (λ es. Solved es r) (ap (code_equations s' b ws) list ∙ sym (append-nil (code_equations s' b ws m.pushed))) h);
-      },
-      subst (PairsIn (length s'.cells) (length ws)) (sym list) m.below,
-    )
+-- what is left of an equation alone
+pub matched_left : (s mid s' : State) (b : ℕ) (ws : List CodeWord) (w : Word) (p : ℕ) (more : List (ℕ × ℕ)) (yes : Bool) → Matched s mid b ws w p more
+    → Answer mid s' (code_equations mid b ws more) yes → Answer s s' (code_equation s b ws w p) yes
+matched_left s mid s' b ws w p more ok m ans = go ok ans
+  where
+    alone : (r : Option (List (ℕ × Tree ℕ))) → Solved (code_equations mid b ws more) r → Solved (code_equation s b ws w p) (after m.unifier r)
+    alone r h = m.reduces [] r (subst (λ es. Solved es r) (sym (append-nil (code_equations mid b ws more))) h)
 
-module _ (s0 s s' : State) (b : ℕ) (ws : List CodeWord) (all : List (Tree ℕ × Tree ℕ)) (work rest new : List (ℕ × ℕ)) (place q : ℕ) (w : Word)
-    (k : Matching s0 s b ws all (code_equations s b ws (reverse work))) (split : work ≡ rest ++ (place, q) ∷ []) (below : PairsIn (length s.cells) (length ws) (reverse work))
+    go : (y : Bool) → Answer mid s' (code_equations mid b ws more) y → Answer s s' (code_equation s b ws w p) y
+    go true d = solved_by s s' (code_equation s b ws w p) (m.unifier ++ d.unifier) (Extends-trans s mid s' m.extends d.extends) (alone (Some d.unifier) d.solved)
+        (d.bound ∙ (ap (λ bs. bs ++ d.unifier) m.bound ∙ append_assoc (bound s) m.unifier d.unifier))
+    go false d = alone None d
+
+-- nothing is left of an equation
+pub matched_whole : (s s' : State) (b : ℕ) (ws : List CodeWord) (w : Word) (p : ℕ) → Matched s s' b ws w p [] → SolvedBy s s' (code_equation s b ws w p)
+matched_whole s s' b ws w p m =
+    solved_by s s' (code_equation s b ws w p) m.unifier m.extends (subst (λ u. Solved (code_equation s b ws w p) (Some u)) (append-nil m.unifier) (m.reduces [] (Some []) solved)) m.bound
+
+-- a list of equations, of which the first is looked at
+module _ (s0 s s' : State) (b : ℕ) (ws : List CodeWord) (all : List (Tree ℕ × Tree ℕ)) (now rest : List (ℕ × ℕ)) (place q : ℕ) (w : Word)
+    (k : Matching s0 s b ws all (code_equations s b ws now)) (split : now ≡ (place, q) ∷ rest) (below : PairsIn (length s.cells) (length ws) now)
     (tree_is : tree_of_word s w ≡ tree_at s (record { 0 = place })) where
-  turn-list : reverse work ≡ (place, q) ∷ reverse rest
-  turn-list = ap reverse split ∙ reverse-push_pair rest (place, q)
+  turn-below : (place < length s.cells) × (q < length ws) × PairsIn (length s.cells) (length ws) rest
+  turn-below = subst (PairsIn (length s.cells) (length ws)) split below
 
-  turn-below : (place < length s.cells) × (q < length ws) × PairsIn (length s.cells) (length ws) (reverse rest)
-  turn-below = subst (PairsIn (length s.cells) (length ws)) turn-list below
-
-  pub turn-place : place < length s.cells
-  turn-place = turn-below.0
-
-  pub turn-code : q < length ws
-  turn-code = turn-below.1
-
-  turn-start : (r : Option (List (ℕ × Tree ℕ))) → Solved ((tree_of_word s w, code_tree_in s b ws q) ∷ code_equations s b ws (reverse rest)) r → Solved all (after k.unifier r)
-  turn-start r h = k.reduces r (subst (λ es. Solved es r) (ap (λ t. (t, code_tree_in s b ws q) ∷ code_equations s b ws (reverse rest)) tree_is ∙ sym (ap (code_equations s b ws) turn-list)) h)
+  turn-start : (r : Option (List (ℕ × Tree ℕ))) → Solved ((tree_of_word s w, code_tree_in s b ws q) ∷ code_equations s b ws rest) r → Solved all (after k.unifier r)
+  turn-start r h = k.reduces r (subst (λ es. Solved es r) (ap (λ t. (t, code_tree_in s b ws q) ∷ code_equations s b ws rest) tree_is ∙ sym (ap (code_equations s b ws) split)) h)
 
   pub turn-none : Solved (code_equation s b ws w q) None → Solved all None
-  turn-none h = turn-start None (then h (code_equations s b ws (reverse rest)))
+  turn-none h = turn-start None (then h (code_equations s b ws rest))
 
-  pub turn-matching : Matched s s' b ws w q rest new → Matching s0 s' b ws all (code_equations s' b ws (reverse new))
-  turn-matching m = record {
+  pub turn-matching : (more next : List (ℕ × ℕ)) → next ≡ more ++ rest → Matched s s' b ws w q more → Matching s0 s' b ws all (code_equations s' b ws next)
+  turn-matching more next e m = record {
     extends = Extends-trans s0 s s' k.extends m.extends;
     unifier = k.unifier ++ m.unifier;
     bound = m.bound ∙ (ap (λ bs. bs ++ m.unifier) k.bound ∙ append_assoc (bound s0) k.unifier m.unifier);
     reduces = λ r h.
-        let list : code_equations s' b ws (reverse new) ≡ code_equations s' b ws m.pushed ++ applied m.unifier (code_equations s b ws (reverse rest)) =
-        ap (code_equations s' b ws) m.list ∙ (map-append (λ p. (tree_at s' (record { 0 = p.0 }), code_tree_in s' b ws p.1)) m.pushed (reverse rest)
-        ∙ ap (λ es. code_equations s' b ws m.pushed ++ es) (equations-move s s' b ws m.unifier (reverse rest) m.extends m.bound turn-below.2)) in
-        subst (Solved all) (after-after k.unifier m.unifier r) (turn-start (after m.unifier r) (m.reduces (code_equations s b ws (reverse rest)) r (subst (λ es. Solved es r) list h)));
+        let list : code_equations s' b ws next ≡ code_equations s' b ws more ++ applied m.unifier (code_equations s b ws rest) =
+        ap (code_equations s' b ws) e ∙ (map-append (λ p. (tree_at s' (record { 0 = p.0 }), code_tree_in s' b ws p.1)) more rest
+        ∙ ap (λ es. code_equations s' b ws more ++ es) (equations-move s s' b ws m.unifier rest m.extends m.bound turn-below.2)) in
+        subst (Solved all) (after-after k.unifier m.unifier r) (turn-start (after m.unifier r) (m.reduces (code_equations s b ws rest) r (subst (λ es. Solved es r) list h)));
   }
 
-  pub turn-in : Matched s s' b ws w q rest new → PairsIn (length s'.cells) (length ws) (reverse new)
-  turn-in m = subst (PairsIn (length s'.cells) (length ws)) (sym m.list) (PairsIn-append (length s'.cells) (length ws) m.pushed (reverse rest) m.below (PairsIn-more (length s.cells) (length s'.cells) (length ws) (reverse rest) m.extends.more_cells turn-below.2))
+  pub turn-in : (more next : List (ℕ × ℕ)) → next ≡ more ++ rest → Matched s s' b ws w q more → PairsIn (length s'.cells) (length ws) next
+  turn-in more next e m =
+      subst (PairsIn (length s'.cells) (length ws)) (sym e) (PairsIn-append (length s'.cells) (length ws) more rest m.below (PairsIn-more (length s.cells) (length s'.cells) (length ws) rest m.extends.more_cells turn-below.2))
 
-  pub turn-smaller : Matched s s' b ws w q rest new → code_weight ws (reverse new) < code_weight ws (reverse work)
-  turn-smaller m = omega (arith, ap (code_weight ws) m.list, weight-append ws m.pushed (reverse rest), ap (code_weight ws) turn-list, m.smaller)
+  pub turn-smaller : (more next : List (ℕ × ℕ)) → next ≡ more ++ rest → Matched s s' b ws w q more → code_weight ws next < code_weight ws now
+  turn-smaller more next e m = omega (arith, ap (code_weight ws) e, weight-append ws more rest, ap (code_weight ws) split, m.smaller)
 
 pub matching_done : (s0 s : State) (b : ℕ) (ws : List CodeWord) (all ahead : List (Tree ℕ × Tree ℕ)) → Matching s0 s b ws all ahead → ahead ≡ [] → SolvedBy s0 s all
 matching_done s0 s b ws all ahead k none =
@@ -430,14 +426,6 @@ answer_false s s' es ok e d = subst (Answer s s' es) e d
 
 pub first-tree : (s : State) (b : ℕ) (ws : List CodeWord) (p n : ℕ) → IsStore s → s.next ≤ n → code_tree_in s b ws p ≡ tree_of_var s n → var n ≡ code_tree_in s b ws p
 first-tree s b ws p n st up e = sym (e ∙ apply-free (base s) [] s.links n refl (free-new s n st up))
-
-pub matched_true : (s s' : State) (b : ℕ) (ws : List CodeWord) (w : Word) (p : ℕ) (work new : List (ℕ × ℕ)) (ok : Bool) → ok ≡ true
-    → MatchBool ok (Matched s s' b ws w p work new) (Solved (code_equation s b ws w p) None) → Matched s s' b ws w p work new
-matched_true s s' b ws w p work new ok e m = subst (λ y. MatchBool y (Matched s s' b ws w p work new) (Solved (code_equation s b ws w p) None)) e m
-
-pub matched_false : (s s' : State) (b : ℕ) (ws : List CodeWord) (w : Word) (p : ℕ) (work new : List (ℕ × ℕ)) (ok : Bool) → ok ≡ false
-    → MatchBool ok (Matched s s' b ws w p work new) (Solved (code_equation s b ws w p) None) → Solved (code_equation s b ws w p) None
-matched_false s s' b ws w p work new ok e m = subst (λ y. MatchBool y (Matched s s' b ws w p work new) (Solved (code_equation s b ws w p) None)) e m
 
 pub words_get : (c n : ℕ) (ws : List Word) (p : ℕ) → p < length ws → WordsIn c n ws → WordIn c n (get_or ws p no_word)
 words_get c n [] p l h = absurd (omega arith)

@@ -1,6 +1,7 @@
 -- Steps of a walk over places that are still to be looked at.
 use Rattle.std.proofs.Common.{◌≡◌, ℕ, zero, suc, ◌+◌, ◌-◌, ◌<◌, ◌≤◌, List, [], ◌∷◌, ◌++◌, take, drop, length, get_or, refl, ap, ◌∙◌, sym, subst, Bool, true, false, ◌||◌, arith, append_assoc, map, reverse}
 use Rattle.std.proofs.lemmas.List.{reverse-append, drop_more, get_or-map, map-append, append-nil}
+use Rattle.std.proofs.lemmas.Bool.{eq-eqb, ne_eqb}
 use Rattle.pl_atoms.specs.declared.names.NameId.{NameId}
 use Rattle.pl_terms.specs.declared.cell.Cell.TheVariants.{Comp}
 use Rattle.pl_unify.specs.declared.word.Word.TheVariants as W
@@ -12,6 +13,7 @@ use Rattle.pl_unify.specs.declared.word.Word.{Word}
 use Rattle.run_model.specs.Substitution.{apply}
 use Rattle.pl_unify.specs.State.{State, tree_at, places, base, bound, shape}
 use Rattle.pl_unify.specs.Stack.{span, Below, stack}
+use Rattle.pl_unify.specs.Notes.{block}
 use Rattle.pl_unify.proofs.Grown.{length-bases_nil}
 use Rattle.pl_unify.proofs.Shapes.{length-places, count-args}
 
@@ -118,3 +120,37 @@ occurs_plain s n (W.Var m) v c = absurd (v m refl)
 occurs_plain s n (W.Int z) v c = refl
 occurs_plain s n (W.Name a) v c = refl
 occurs_plain s n (W.Comp k f first) v c = absurd (c k f first refl)
+
+-- a block's first place is looked at
+pub block-next : (s : State) (n first count k : ℕ) → k < count → first + count ≤ length s.cells
+    → occurs_any n (block s (first + k) (count - k)) ≡ (occurs n (tree_at s (record { 0 = first + k })) || occurs_any n (block s (first + (k + 1)) (count - (k + 1))))
+block-next s n first count k h l =
+    let e : count - k ≡ suc (count - (k + 1)) = omega arith in
+    let f : first + (k + 1) ≡ (first + k) + 1 = omega arith in
+    let low : first + k < length (places s) = omega (arith, length-places s) in
+    let here : tree_at s (record { 0 = first + k }) ≡ get_or (places s) (first + k) (var 0) = tree_at-places s (first + k) (omega arith) in
+    ap (λ m. occurs_any n (block s (first + k) m)) e
+    ∙ (ap (λ ts. occurs_any n (trees (take (suc (count - (k + 1))) ts))) (drop_more (places s) (first + k) (var 0) low)
+    ∙ (ap (λ t. occurs n t || occurs_any n (trees (take (count - (k + 1)) (drop ((first + k) + 1) (places s))))) (sym here)
+    ∙ ap (λ p. occurs n (tree_at s (record { 0 = first + k })) || occurs_any n (block s p (count - (k + 1)))) (sym f)))
+
+-- a variable at the place is the one that is looked for
+pub block-found : (s : State) (n m first count k : ℕ) (w : Word) → k < count → first + count ≤ length s.cells → tree_at s (record { 0 = first + k }) ≡ shape s w → w ≡ W.Var m → n ≡ m
+    → true ≡ occurs_any n (block s (first + k) (count - k))
+block-found s n m first count k w h l root e same =
+    let here : occurs n (tree_at s (record { 0 = first + k })) ≡ true = ap (occurs n) (root ∙ ap (shape s) e) ∙ eq-eqb n m same in
+    sym (block-next s n first count k h l ∙ ap (λ b. b || occurs_any n (block s (first + (k + 1)) (count - (k + 1)))) here)
+
+-- what stands at the place is no compound and not the variable
+pub block-passed : (s : State) (n first count k : ℕ) (w : Word) (all : Bool) → k < count → first + count ≤ length s.cells → tree_at s (record { 0 = first + k }) ≡ shape s w
+    → ((m : ℕ) → w ≡ W.Var m → n ≡ m → ⊥) → ((j : ℕ) (f : NameId) (place : ℕ) → w ≡ W.Comp j f place → ⊥)
+    → occurs_any n (block s (first + k) (count - k)) ≡ all → occurs_any n (block s (first + (k + 1)) (count - (k + 1))) ≡ all
+block-passed s n first count k w all h l root other plain is =
+    let here : occurs n (tree_at s (record { 0 = first + k })) ≡ false = ap (occurs n) root ∙ go w other plain in
+    sym (sym is ∙ (block-next s n first count k h l ∙ ap (λ b. b || occurs_any n (block s (first + (k + 1)) (count - (k + 1)))) here))
+  where
+    go : (x : Word) → ((m : ℕ) → x ≡ W.Var m → n ≡ m → ⊥) → ((j : ℕ) (f : NameId) (place : ℕ) → x ≡ W.Comp j f place → ⊥) → occurs n (shape s x) ≡ false
+    go (W.Var m) o p = ne_eqb n m (o m refl)
+    go (W.Int z) o p = refl
+    go (W.Name a) o p = refl
+    go (W.Comp j f place) o p = absurd (p j f place refl)

@@ -7,6 +7,7 @@ pub mod Steps
 pub mod Load
 pub mod Code
 pub mod Match
+pub mod Spans
 pub mod Coding
 pub mod Notes
 pub mod Making

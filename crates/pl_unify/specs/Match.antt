@@ -1,5 +1,5 @@
 -- What matching a head against its code says.
-use Rattle.std.specs.Prelude.{◌≡◌, ℕ, ◌+◌, ◌<◌, List, [], ◌∷◌, ◌++◌, length, map, reverse, Option, Some, None}
+use Rattle.std.specs.Prelude.{◌≡◌, ℕ, ◌+◌, ◌<◌, List, [], ◌∷◌, ◌++◌, length, map, Option, Some, None}
 use Rattle.pl_terms.specs.Trees.{Tree}
 use Rattle.run_model.specs.Substitution.{size}
 use Rattle.pl_unify.specs.declared.word.Word.{Word}
@@ -52,16 +52,14 @@ abbrev pub code_weight : List CodeWord → List (ℕ × ℕ) → ℕ
 code_weight ws [] = 0
 code_weight ws (p ∷ ps) = size (code_tree ws p.1) + code_weight ws ps
 
--- an equation with a place of code was solved, up to the equations of arguments that were put on the list
-pub record Matched (old new : State) (base : ℕ) (ws : List CodeWord) (w : Word) (p : ℕ) (work work' : List (ℕ × ℕ)) : Type 0 where
+-- an equation with a place of code was solved, up to the equations of these places
+pub record Matched (old new : State) (base : ℕ) (ws : List CodeWord) (w : Word) (p : ℕ) (left : List (ℕ × ℕ)) : Type 0 where
   pub extends : Extends old new
   pub unifier : List (ℕ × Tree ℕ)
   pub bound : bound new ≡ bound old ++ unifier
-  pub pushed : List (ℕ × ℕ)
-  pub list : reverse work' ≡ pushed ++ reverse work
-  pub below : PairsIn (length new.cells) (length ws) pushed
-  pub smaller : code_weight ws pushed < size (code_tree ws p)
-  pub reduces : (es : List (Tree ℕ × Tree ℕ)) (r : Option (List (ℕ × Tree ℕ))) → Solved (code_equations new base ws pushed ++ applied unifier es) r
+  pub below : PairsIn (length new.cells) (length ws) left
+  pub smaller : code_weight ws left < size (code_tree ws p)
+  pub reduces : (es : List (Tree ℕ × Tree ℕ)) (r : Option (List (ℕ × Tree ℕ))) → Solved (code_equations new base ws left ++ applied unifier es) r
       → Solved ((tree_of_word old w, code_tree_in old base ws p) ∷ es) (after unifier r)
 
 -- the equation of a word with a place of code

@@ -1,13 +1,14 @@
 -- Blocks of places that are known to hold no unbound variable.
-use Rattle.std.specs.Prelude.{◌≡◌, ℕ, zero, suc, ◌+◌, ◌<◌, ◌≤◌, List, [], ◌∷◌, ◌++◌, ◌⊎◌, length, take, reverse, false, slice_index_or}
-use Rattle.pl_terms.specs.Trees.{Tree, var}
+use Rattle.std.specs.Prelude.{◌≡◌, ℕ, zero, suc, ◌+◌, ◌<◌, ◌≤◌, List, [], ◌∷◌, ◌++◌, ◌⊎◌, length, take, drop, reverse, false, slice_index_or}
+use Rattle.pl_terms.specs.Trees.{Tree, Trees, var}
 use Rattle.run_model.specs.Substitution.{occurs}
 use Rattle.pl_unify.specs.declared.word.Word.{Word}
 use Rattle.pl_unify.specs.declared.store.notes.Step.{Step}
 use Rattle.pl_unify.specs.declared.store.notes.Step.TheVariants.{Visit, Done}
 use Rattle.run_model.specs.Substitution.{apply}
 use Rattle.pl_unify.specs.Words.{Link, bases, bound_onto}
-use Rattle.pl_unify.specs.State.{State, tree_at, IsStoreInside, links_of}
+use Rattle.pl_unify.specs.State.{State, tree_at, places, IsStoreInside, links_of}
+use Rattle.pl_unify.specs.Prefix.{trees}
 
 -- no variable is in the tree
 abbrev pub IsGround : Tree ℕ → Type 0
@@ -16,6 +17,10 @@ IsGround t = (n : ℕ) → occurs n t ≡ false
 -- the places of a block hold no unbound variable
 abbrev pub GroundBlock : State → ℕ → ℕ → Type 0
 GroundBlock s first k = (i : ℕ) → i < k → IsGround (tree_at s (record { 0 = first + i }))
+
+-- the trees of a block
+abbrev pub block : State → ℕ → ℕ → Trees ℕ
+block s first k = trees (take k (drop first (places s)))
 
 -- the k places up to p hold no variable that the first links leave unbound
 pub record GroundThen (cells : List Word) (links : List Link) (p k bindings : ℕ) : Type 0 where

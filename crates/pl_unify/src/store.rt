@@ -17,6 +17,7 @@ mod read;
 mod scratch;
 mod unify;
 
+use self::head::Span;
 use self::notes::{Step, forget};
 use crate::list::{make_room, put};
 use crate::word::{Ref, Word};
@@ -44,11 +45,11 @@ pub struct Store {
     ground: Vec<u8>,
     // The places of these notes in the order of their making, with the number of bindings then.
     noted: Vec<(usize, usize)>,
-    // Lists that calls use and keep for the next call: words of a term, equations of places, equations of places and code,
-    // and steps of a walk.
+    // Lists that calls use and keep for the next call: words of a term, equations of places, spans of equations of places with
+    // code, and steps of a walk.
     words: Vec<Word>,
     equations: Vec<(usize, usize)>,
-    matches: Vec<(usize, usize)>,
+    spans: Vec<Span>,
     steps: Vec<Step>,
     alloc: Global,
 }
@@ -84,7 +85,7 @@ impl Store {
             noted: Vec::new(alloc),
             words: Vec::new(alloc),
             equations: Vec::new(alloc),
-            matches: Vec::new(alloc),
+            spans: Vec::new(alloc),
             steps: Vec::new(alloc),
             alloc,
         }
@@ -109,6 +110,14 @@ impl Store {
         make_room(&mut self.vars, vars)?;
         make_room(&mut self.trail, trail)?;
         Ok(())
+    }
+
+    // Makes room for one more binding. NoMemory: the terms are as before.
+    fn reserve_binding(&mut self) -> Result<(), NoMemory>
+        ensures room { OnOk result (1 ≤ self.new.trail_room) }
+        ensures state { self.new.state ≡ self.old.state }
+    {
+        make_room(&mut self.trail, 1)
     }
 
     /// Makes a new unbound variable, and a place for it. NoMemory: all is as before.

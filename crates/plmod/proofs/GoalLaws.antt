@@ -9,6 +9,8 @@ use Rattle.pl_ops.specs.Tables.{operator}
 use Rattle.pl_atoms.specs.declared.memory.NoMemory.{NoMemory}
 use Rattle.unit_model.specs.Facts.{Facts}
 use Rattle.unit_model.specs.Directives.{Text}
+use Rattle.goal_model.specs.Program.{Program}
+use Rattle.link_program.specs.Linking.{program_of_facts}
 use Rattle.prep_report.specs.Lines.{end_text}
 use Rattle.goal_text.specs.Goals.{VariableNames, IsGoal, IsGoalFault, GoalsAreDecided}
 use Rattle.pl_machine.specs.declared.run.Show.TheVariants.{Lines}
@@ -44,9 +46,9 @@ abbrev pub Tells : Result Made NoMemory → Status → Option (List ℕ) → Opt
 Tells made status old new = (o : Outcome) → IsMade made o → Gives status o old new
 
 -- the line of a run's end
-pub end_is : (f : Finished) (budget : ℕ) (r : Outcomes) → IsFinished budget f r
+pub end_is : (q : Program Text) (f : Finished) (budget : ℕ) (r : Outcomes) → IsFinished q budget f r
     → told (end_text (operator standard) f.machine.library.names f.end) (status_in (manner f.end)) ≡ told (end_line r) (status_of r)
-end_is f budget r is =
+end_is q f budget r is =
     ap (λ l. told l (status_in (manner f.end))) is.shown ∙ ap (λ m. told (end_line r) (status_in m)) is.manner
 
 module _ (decided : GoalsAreDecided) where
@@ -69,7 +71,7 @@ module _ (decided : GoalsAreDecided) where
       let r : Outcomes = run_over us ends.0 budget in
       let same = (decided goal).one_goal ends.0 t ends.1 names ends.2 h in
       let given : Gives status (ran ends.1 r) old new = answers_after status (status_of r) (events_text ends.1 r) (end_line r) old mid new read ends.3
-      (tells (told (end_line r) (status_of r)) (made_same made (told (end_text (operator standard) f.machine.library.names f.end) (status_in (manner f.end))) (told (end_line r) (status_of r)) (end_is f budget r ends.4) is)) in
+      (tells (told (end_line r) (status_of r)) (made_same made (told (end_text (operator standard) f.machine.library.names f.end) (status_in (manner f.end))) (told (end_line r) (status_of r)) (end_is (program_of_facts us) f budget r ends.4) is)) in
       let P : Tree Text → Type 0 = λ x. Gives status (ran ends.1 (run_over us x budget)) old new in
       let Q : VariableNames → Type 0 = λ x. Gives status (ran x (run_over us t budget)) old new in
       subst Q same.1 (subst P same.0 given)

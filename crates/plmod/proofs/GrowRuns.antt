@@ -14,6 +14,8 @@ use Rattle.unit_model.specs.Directives.{Text}
 use Rattle.search_theory.specs.Search.{answers_of}
 use Rattle.link_model.specs.Faults.{Fault}
 use Rattle.link_model.specs.Texts.{prep_fault, link_fault, program, WholeIs}
+use Rattle.goal_model.specs.Program.{Program}
+use Rattle.link_program.specs.Linking.{program_of_facts}
 use Rattle.needs_laws.specs.Wholes.{OneWhole}
 use Rattle.prep_report.specs.Lines.{end_text, count_text}
 use Rattle.goal_text.specs.Goals.{IsGoal, IsGoalFault, GoalsAreDecided}
@@ -43,11 +45,11 @@ count_lines budget r = count_text (stopped (length (answers_of r.events))) (budg
 abbrev pub lines_made : Finished → List ℕ
 lines_made f = count_text f.machine.answers (f.machine.budget - f.machine.left) ++ end_text (operator standard) f.machine.library.names f.end
 
-count_is : (f : Finished) (budget : ℕ) (r : Outcomes) → IsFinished budget f r → told (lines_made f) (status_in (manner f.end)) ≡ told (count_lines budget r) (status_of r)
-count_is f budget r is =
+count_is : (q : Program Text) (f : Finished) (budget : ℕ) (r : Outcomes) → IsFinished q budget f r → told (lines_made f) (status_in (manner f.end)) ≡ told (count_lines budget r) (status_of r)
+count_is q f budget r is =
     ap (λ a. told (count_text a (f.machine.budget - f.machine.left) ++ end_text (operator standard) f.machine.library.names f.end) (status_in (manner f.end))) is.answers
     ∙ ap (λ s. told (count_text (stopped (length (answers_of r.events))) s ++ end_text (operator standard) f.machine.library.names f.end) (status_in (manner f.end))) is.steps
-    ∙ ap (λ p. record { bytes = count_text (stopped (length (answers_of r.events))) (budget - r.left) ++ p.bytes; status = p.status; stored = p.stored }) (end_is f budget r is)
+    ∙ ap (λ p. record { bytes = count_text (stopped (length (answers_of r.events))) (budget - r.left) ++ p.bytes; status = p.status; stored = p.stored }) (end_is q f budget r is)
 
 module _ (decided : GoalsAreDecided) where
   -- the goal is none
@@ -68,7 +70,7 @@ module _ (decided : GoalsAreDecided) where
       let r : Outcomes = run_over us ends.0 budget in
       let same = (decided grow_goal).one_goal ends.0 t ends.1 names ends.2 h in
       let given : Gives status (told (count_lines budget r) (status_of r)) old new = answers_after status (status_of r) [] (count_lines budget r) old mid new read ends.3
-      (tells (told (count_lines budget r) (status_of r)) (made_same made (told (lines_made f) (status_in (manner f.end))) (told (count_lines budget r) (status_of r)) (count_is f budget r ends.4) is)) in
+      (tells (told (count_lines budget r) (status_of r)) (made_same made (told (lines_made f) (status_in (manner f.end))) (told (count_lines budget r) (status_of r)) (count_is (program_of_facts us) f budget r ends.4) is)) in
       let P : Tree Text → Type 0 = λ x. Gives status (told (count_lines budget (run_over us x budget)) (status_of (run_over us x budget))) old new in
       subst P same.0 given
 

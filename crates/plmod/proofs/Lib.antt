@@ -7,9 +7,8 @@ pub mod LinkLaws
 pub mod GrownLaws
 pub mod Tellings
 pub mod RowLaws
-pub mod CountLaws
-pub mod CollectLaws
 pub mod CommandLaws
+pub mod LastLaws
 pub mod GoalLaws
 pub mod GrowParts
 pub mod GrowRuns

@@ -10,7 +10,10 @@ use Rattle.unit_format.specs.declared.unit.Unit.{Unit as ReadUnit}
 use Rattle.link_model.specs.Faults.{Fault as FaultOf, first_link}
 use Rattle.link_faults.specs.declared.fault.Fault.{Fault}
 use Rattle.link_faults.specs.Views.{fault_view}
-use Rattle.prep_report.specs.Lines.{not_unit_text}
+use Rattle.mod_linker.specs.Counting.{linked_modules}
+use Rattle.mod_linker.specs.Linking.{IsLinkOf}
+use Rattle.pl_store.specs.Linked.{Linked}
+use Rattle.prep_report.specs.Lines.{not_unit_text, linked_text}
 use Rattle.plmod.specs.declared.made.Made.{Made}
 use Rattle.plmod.specs.declared.status.Status.{Status}
 use Rattle.plmod.specs.declared.status.Status.TheVariants.{Done, Usage, PrepFault, NotUnit, LinkFault, GoalFault, Uncaught, Spent, ReadFault, WriteFault, NoMemory as OutOfMemory}
@@ -18,7 +21,7 @@ use Rattle.plmod.specs.Outcome.{Outcome, told}
 use Rattle.plmod.specs.MadeOutcome.{outcome_of}
 use Rattle.plmod.specs.Meets.{Answers, IsWhole}
 use Rattle.plmod.specs.Prepares.{AreUnits, one_more, FirstNoUnit, here, later}
-use Rattle.plmod.specs.Links.{UnitsGive, no_unit, units, linked_outcome, link_faulty}
+use Rattle.plmod.specs.Links.{UnitsGive, no_unit, units, linked_outcome, link_faulty, link_lines}
 use Rattle.plmod.proofs.FetchedLaws.{appends_nothing}
 use Rattle.plmod.proofs.Units.{units_push}
 
@@ -65,6 +68,10 @@ of_fault lines names f first (Err e) is same = tt
 -- no link fault
 pub of_none : (line lines : List ℕ) (names : List (List ℕ)) (first : Option FaultOf) → None ≡ first → line ≡ lines → told line Done ≡ linked_outcome lines names first
 of_none line lines names first is same = ap (λ l. told l Done) same ∙ ap (linked_outcome lines names) is
+
+-- a linked program has as many modules and procedures as its units
+pub lines_of_link : (us : List (Facts Text)) (l : Linked) → IsLinkOf us l → linked_text (length l.modules) (length l.procedures) ≡ link_lines us
+lines_of_link us l is = ap (λ n. linked_text n (length l.procedures)) is.modules ∙ ap (λ n. linked_text (length (linked_modules us)) n) is.procedures
 
 -- nothing is written where there is nothing to write
 pub answers_nothing : (status : Status) (line : List ℕ) (old : Option (List ℕ)) → line ≡ [] → IsWhole status → Answers status status line old old

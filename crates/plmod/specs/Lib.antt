@@ -1,14 +1,13 @@
 pub mod Words
 pub mod Outcome
 pub mod Prepares
-pub mod Counting
-pub mod Collecting
 pub mod Links
 pub mod Growing
 pub mod Runs
 pub mod Together
 pub mod Comes
 pub mod Meets
+pub mod Last
 pub mod Fetched
 pub mod MadeOutcome
 pub mod Telling

@@ -7,11 +7,11 @@ use Rattle.unit_model.specs.Facts.{Facts}
 use Rattle.unit_model.specs.Directives.{Text}
 use Rattle.link_model.specs.Faults.{Fault, first_link}
 use Rattle.link_model.specs.Rows.{Row, rows_of}
+use Rattle.mod_linker.specs.Counting.{linked_modules, linked_procedures}
 use Rattle.prep_report.specs.Lines.{fault_text, not_unit_text, linked_text}
 use Rattle.plmod.specs.declared.status.Status.TheVariants.{Done, NotUnit, LinkFault}
 use Rattle.plmod.specs.Outcome.{Outcome, told}
 use Rattle.plmod.specs.Prepares.{AreUnits, FirstNoUnit}
-use Rattle.plmod.specs.Counting.{linked_modules, linked_procedures}
 
 abbrev pub procedure_line : Row → List ℕ
 procedure_line r = name_text quotes r.of ++ codes ":" ++ name_text quotes r.ind.name ++ codes "/" ++ decimal r.ind.arity

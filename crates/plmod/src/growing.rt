@@ -1,5 +1,5 @@
 //! The command `grow`: a program that grows with its number of modules.
-ghost use Rattle.std.specs.Prelude.{◌≡◌, ◌≢◌, ◌≤◌, ◌<◌, ◌-◌, ◌++◌, codes, decimal, List, IfOk, OnOk, length, map, []};
+ghost use Rattle.std.specs.Prelude.{◌≡◌, ◌≢◌, ◌≤◌, ◌<◌, ◌-◌, ◌++◌, codes, decimal, List, None, IfOk, OnOk, length, map, []};
 ghost use Rattle.std.specs.List.{All};
 ghost use Rattle.plm_io.specs.Causes.{Rose};
 ghost use Rattle.pl_ops.specs.Standard.{standard};
@@ -14,13 +14,15 @@ ghost use Rattle.prep_report.specs.Lines.{count_text, end_text};
 ghost use Rattle.pl_machine.specs.Machine.{IsMachine};
 ghost use Rattle.goal_runs.specs.Ends.{manner};
 ghost use Rattle.plmod.specs.Outcome.{Outcome, told};
-ghost use Rattle.plmod.specs.Growing.{grow_texts, last_text, interface_lines, body_lines, import_line, fact_line, rule_line, only_after_first};
+ghost use Rattle.plmod.specs.Growing.{grow_texts, grow_goal, last_text, interface_lines, body_lines, import_line, fact_line, rule_line, only_after_first};
 ghost use Rattle.plmod.specs.Links.{link_lines};
 ghost use Rattle.plmod.specs.Runs.{GrowGives, CountGives, status_in};
 ghost use Rattle.plmod.specs.Together.{ArePrepared};
 ghost use Rattle.plmod.specs.MadeOutcome.{outcome_of, CanBeTold};
 ghost use Rattle.plmod.specs.Meets.{Gives};
+ghost use Rattle.plmod.specs.Last.{HasRun, HasRunOver, AreOfTexts, has_ended, Leaves};
 
+use crate::last::machine_after;
 use crate::made::Made;
 use crate::running::{end_of, faulty_goal, faulty_text, told_or_not};
 use crate::status::Status;
@@ -32,7 +34,7 @@ use itoa::Buffer;
 use mod_linker::{LinkFault, link};
 use needs_laws::texts_are_one_whole;
 use pl_atoms::{Bytes, NoMemory};
-use pl_machine::{RunFault, Show};
+use pl_machine::{Machine, RunFault, Show};
 use pl_store::Program;
 use plm_io::{IoFault, Sink};
 use prep_report::count_line as answers_line;
@@ -41,11 +43,19 @@ use std::alloc::Global;
 use unit_format::Unit;
 
 /// Makes the texts of so many modules, prepares and links them, and counts the answers and steps of a goal that calls them all.
-pub fn grow<O: Sink>(alloc: Global, count: u64, budget: u64, out: &mut O) -> Status
+pub fn grow<O: Sink>(
+    alloc: Global,
+    count: u64,
+    budget: u64,
+    out: &mut O,
+    last: &mut Option<Machine>,
+) -> Status
+    requires { last.old ≡ None }
     ensures output { (o : Outcome) → GrowGives count budget o → Gives result o (O.written out.old) (O.written out.new) }
     ensures write_fault { result ≡ Status.WriteFault → Rose (O.faults out.old) (O.faults out.new) }
     ensures read { result ≢ Status.ReadFault }
     ensures used { result ≢ Status.Usage }
+    ensures leaves { Leaves (has_ended result) (HasRunOver (AreOfTexts (grow_texts count)) budget grow_goal) last.new }
 {
     texts_are_one_whole();
     match units_of(alloc, count) {
@@ -56,7 +66,7 @@ pub fn grow<O: Sink>(alloc: Global, count: u64, budget: u64, out: &mut O) -> Sta
                 byte,
             },
         ) => { told_or_not(alloc, faulty_text(alloc, &[], number, 0, byte), out) }
-        Ok(Together::All(units)) => grow_units(alloc, count, budget, units.as_slice(), out),
+        Ok(Together::All(units)) => grow_units(alloc, count, budget, units.as_slice(), out, last),
         Err(NoMemory) => Status::NoMemory,
     }
 }
@@ -187,16 +197,19 @@ fn grow_units<O: Sink>(
     budget: u64,
     units: &[Unit],
     out: &mut O,
+    last: &mut Option<Machine>,
 ) -> Status
-    requires { WholeIs (grow_texts count) (linked (map unit_facts units.now) (first_link (map unit_facts units.now))) }
+    requires whole { WholeIs (grow_texts count) (linked (map unit_facts units.now) (first_link (map unit_facts units.now))) }
+    requires none { last.old ≡ None }
     ensures output { (o : Outcome) → GrowGives count budget o → Gives result o (O.written out.old) (O.written out.new) }
     ensures write_fault { result ≡ Status.WriteFault → Rose (O.faults out.old) (O.faults out.new) }
     ensures read { result ≢ Status.ReadFault }
     ensures used { result ≢ Status.Usage }
+    ensures leaves { Leaves (has_ended result) (HasRunOver (AreOfTexts (grow_texts count)) budget grow_goal) last.new }
 {
     texts_are_one_whole();
     match link(alloc, units) {
-        Ok(program) => grow_program(alloc, budget, units, program, out),
+        Ok(program) => grow_program(alloc, budget, program, out, last),
         Err(LinkFault::Fault { number, unit, byte }) => {
             told_or_not(alloc, faulty_link(alloc, &[], number, unit, byte), out)
         }
@@ -208,39 +221,52 @@ fn grow_units<O: Sink>(
 fn grow_program<O: Sink>(
     alloc: Global,
     budget: u64,
-    units: &[Unit],
     program: Program,
     out: &mut O,
+    last: &mut Option<Machine>,
 ) -> Status
-    ensures output { (o : Outcome) → IsLinkOf (map unit_facts units.now) program → CountGives (link_lines (map unit_facts units.now)) (map unit_facts units.now) budget o →
-        Gives result o (O.written out.old) (O.written out.new) }
+    requires { last.old ≡ None }
+    ensures output { (us : List (Facts Text)) (o : Outcome) → IsLinkOf us program → CountGives (link_lines us) us budget o → Gives result o (O.written out.old) (O.written out.new) }
     ensures write_fault { result ≡ Status.WriteFault → Rose (O.faults out.old) (O.faults out.new) }
     ensures read { result ≢ Status.ReadFault }
     ensures used { result ≢ Status.Usage }
+    ensures leaves { Leaves (has_ended result) (λ m. (us : List (Facts Text)) → IsLinkOf us program → HasRun us budget grow_goal m) last.new }
 {
-    let line = match count_line(alloc, units) {
+    let line = match count_line(alloc, &program) {
         Ok(line) => line,
         Err(NoMemory) => return Status::NoMemory,
     };
     match out.put(alloc, line.as_slice()) {
-        Ok(()) => count_run(alloc, budget, program, out),
+        Ok(()) => count_run(alloc, budget, program, out, last),
         Err(fault) => write_status(fault),
     }
 }
 
 // Runs the goal, and tells its answers and steps and how it ended.
-fn count_run<O: Sink>(alloc: Global, budget: u64, program: Program, out: &mut O) -> Status
+fn count_run<O: Sink>(
+    alloc: Global,
+    budget: u64,
+    program: Program,
+    out: &mut O,
+    last: &mut Option<Machine>,
+) -> Status
+    requires { last.old ≡ None }
     ensures output { (us : List (Facts Text)) (o : Outcome) → IsLinkOf us program → CountGives [] us budget o → Gives result o (O.written out.old) (O.written out.new) }
     ensures write_fault { result ≡ Status.WriteFault → Rose (O.faults out.old) (O.faults out.new) }
     ensures read { result ≢ Status.ReadFault }
     ensures used { result ≢ Status.Usage }
+    ensures leaves { Leaves (has_ended result) (λ m. (us : List (Facts Text)) → IsLinkOf us program → HasRun us budget grow_goal m) last.new }
 {
     goals_are_decided();
     match run_goal(alloc, program, budget, b"go(X).", Show::Count, out) {
         Ok(GoalEnd::NoGoal { number, byte }) => {
             told_or_not(alloc, faulty_goal(alloc, number, byte), out)
         }
-        Ok(GoalEnd::Ended(finished)) => told_or_not(alloc, counts_of(alloc, &finished), out),
+        Ok(GoalEnd::Ended(finished)) => {
+            let status = told_or_not(alloc, counts_of(alloc, &finished), out);
+            *last = machine_after(status, finished);
+            status
+        }
         Err(RunFault::WriteFault) => Status::WriteFault,
         Err(RunFault::NoMemory) => Status::NoMemory,
     }

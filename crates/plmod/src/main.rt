@@ -1,9 +1,9 @@
 //! Runs goals over Prolog texts.
 #![tactic(auto)]
 
-mod counting;
 mod fetch;
 mod growing;
+mod last;
 mod laws;
 mod made;
 mod preparing;
@@ -31,7 +31,8 @@ fn run(rt: &HostRuntime) -> Status {
     };
     let mut shelf = FileShelf::new(rt);
     let mut out = StdSink::new(rt);
-    top::plmod(rt.alloc(), &words, &mut shelf, &mut out)
+    let mut last = None;
+    top::plmod(rt.alloc(), &words, &mut shelf, &mut out, &mut last)
 }
 
 /// The words that the system gives, or none where it doesn't give them as texts.

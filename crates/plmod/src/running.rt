@@ -1,5 +1,5 @@
 //! The commands `run` and `all`.
-ghost use Rattle.std.specs.Prelude.{◌≡◌, ◌≢◌, ◌≤◌, List, Some, IfOk, length, map, get_or, []};
+ghost use Rattle.std.specs.Prelude.{◌≡◌, ◌≢◌, ◌≤◌, List, Some, None, IfOk, length, map, get_or, []};
 ghost use Rattle.std.specs.List.{All};
 ghost use Rattle.plm_io.specs.Causes.{Rose};
 ghost use Rattle.unit_model.specs.Facts.{Facts};
@@ -19,8 +19,10 @@ ghost use Rattle.plmod.specs.Prepares.{faulty};
 ghost use Rattle.plmod.specs.Runs.{RunGives, AllGives, LinkedGives, GoalGives, goal_line, status_in};
 ghost use Rattle.plmod.specs.MadeOutcome.{outcome_of, CanBeTold};
 ghost use Rattle.plmod.specs.Meets.{Meets, Gives};
+ghost use Rattle.plmod.specs.Last.{HasRun, HasRunOver, AreLinked, AreOfTexts, has_ended, Leaves, LeavesLast};
 
 use crate::fetch::{fetch_all, read_status};
+use crate::last::machine_after;
 use crate::made::{Made, put_last, tell};
 use crate::status::Status;
 use crate::telling::{Decoded, decode_all, faulty_link, no_unit, word_of};
@@ -30,7 +32,7 @@ use goal_text::goals_are_decided;
 use mod_linker::{LinkFault, link};
 use needs_laws::texts_are_one_whole;
 use pl_atoms::{Bytes, Name, NoMemory};
-use pl_machine::{End, RunFault, Show};
+use pl_machine::{End, Machine, RunFault, Show};
 use pl_store::Program;
 use plm_io::{Shelf, Sink};
 use prep_report::{end_line, fault_line};
@@ -45,7 +47,9 @@ pub fn run_units<S: Shelf, O: Sink>(
     units: &[Name],
     shelf: &mut S,
     out: &mut O,
+    last: &mut Option<Machine>,
 ) -> Status
+    requires { last.old ≡ None }
     ensures meets { Meets (Some (Run budget goal.now units.now)) result (record {
       file = S.file shelf.old;
       file_after = S.file shelf.new;
@@ -58,6 +62,7 @@ pub fn run_units<S: Shelf, O: Sink>(
       faults = O.faults out.old;
       faults_after = O.faults out.new;
     }) }
+    ensures leaves { LeavesLast (Some (Run budget goal.now units.now)) result (S.file shelf.old) last.new }
 {
     match fetch_all(alloc, shelf, units) {
         Ok(contents) => run_contents(
@@ -67,6 +72,7 @@ pub fn run_units<S: Shelf, O: Sink>(
             units,
             contents.as_slice(),
             out,
+            last,
         ),
         Err(fault) => read_status(fault),
     }
@@ -80,7 +86,9 @@ pub fn run_texts<S: Shelf, O: Sink>(
     texts: &[Name],
     shelf: &mut S,
     out: &mut O,
+    last: &mut Option<Machine>,
 ) -> Status
+    requires { last.old ≡ None }
     ensures meets { Meets (Some (AllOf budget goal.now texts.now)) result (record {
       file = S.file shelf.old;
       file_after = S.file shelf.new;
@@ -93,6 +101,7 @@ pub fn run_texts<S: Shelf, O: Sink>(
       faults = O.faults out.old;
       faults_after = O.faults out.new;
     }) }
+    ensures leaves { LeavesLast (Some (AllOf budget goal.now texts.now)) result (S.file shelf.old) last.new }
 {
     match fetch_all(alloc, shelf, texts) {
         Ok(contents) => run_whole(
@@ -102,6 +111,7 @@ pub fn run_texts<S: Shelf, O: Sink>(
             texts,
             contents.as_slice(),
             out,
+            last,
         ),
         Err(fault) => read_status(fault),
     }
@@ -115,16 +125,21 @@ fn run_contents<O: Sink>(
     names: &[Name],
     contents: &[Bytes],
     out: &mut O,
+    last: &mut Option<Machine>,
 ) -> Status
-    requires { length names.now ≡ length contents.now }
+    requires same { length names.now ≡ length contents.now }
+    requires none { last.old ≡ None }
     ensures output { (o : Outcome) → RunGives names.now contents.now budget goal.now o → Gives result o (O.written out.old) (O.written out.new) }
     ensures write_fault { result ≡ Status.WriteFault → Rose (O.faults out.old) (O.faults out.new) }
     ensures read { result ≢ Status.ReadFault }
     ensures used { result ≢ Status.Usage }
+    ensures leaves { Leaves (has_ended result) (HasRunOver (AreLinked contents.now) budget goal.now) last.new }
 {
     match decode_all(alloc, contents) {
         Ok(Decoded::NoUnit(place)) => told_or_not(alloc, no_unit(alloc, names, place), out),
-        Ok(Decoded::All(units)) => { run_linked(alloc, budget, goal, names, units.as_slice(), out) }
+        Ok(Decoded::All(units)) => {
+            run_linked(alloc, budget, goal, names, units.as_slice(), out, last)
+        }
         Err(NoMemory) => Status::NoMemory,
     }
 }
@@ -137,14 +152,17 @@ fn run_linked<O: Sink>(
     names: &[Name],
     units: &[Unit],
     out: &mut O,
+    last: &mut Option<Machine>,
 ) -> Status
+    requires { last.old ≡ None }
     ensures output { (o : Outcome) → LinkedGives names.now (map unit_facts units.now) budget goal.now (first_link (map unit_facts units.now)) o → Gives result o (O.written out.old) (O.written out.new) }
     ensures write_fault { result ≡ Status.WriteFault → Rose (O.faults out.old) (O.faults out.new) }
     ensures read { result ≢ Status.ReadFault }
     ensures used { result ≢ Status.Usage }
+    ensures leaves { Leaves (has_ended result) (λ m. (first_link (map unit_facts units.now) ≡ None) × HasRun (map unit_facts units.now) budget goal.now m) last.new }
 {
     match link(alloc, units) {
-        Ok(program) => run_program(alloc, program, budget, goal, out),
+        Ok(program) => run_program(alloc, program, budget, goal, out, last),
         Err(LinkFault::Fault { number, unit, byte }) => {
             told_or_not(alloc, faulty_link(alloc, names, number, unit, byte), out)
         }
@@ -160,16 +178,19 @@ fn run_whole<O: Sink>(
     names: &[Name],
     contents: &[Bytes],
     out: &mut O,
+    last: &mut Option<Machine>,
 ) -> Status
-    requires { All (λ t. length t ≤ 67108864) contents.now }
+    requires short { All (λ t. length t ≤ 67108864) contents.now }
+    requires none { last.old ≡ None }
     ensures output { (o : Outcome) → AllGives names.now contents.now budget goal.now o → Gives result o (O.written out.old) (O.written out.new) }
     ensures write_fault { result ≡ Status.WriteFault → Rose (O.faults out.old) (O.faults out.new) }
     ensures read { result ≢ Status.ReadFault }
     ensures used { result ≢ Status.Usage }
+    ensures leaves { Leaves (has_ended result) (HasRunOver (AreOfTexts contents.now) budget goal.now) last.new }
 {
     texts_are_one_whole();
     match whole(alloc, contents) {
-        Ok(program) => run_program(alloc, program, budget, goal, out),
+        Ok(program) => run_program(alloc, program, budget, goal, out, last),
         Err(WholeFault::Prep { number, text, byte }) => {
             told_or_not(alloc, faulty_text(alloc, names, number, text, byte), out)
         }
@@ -219,18 +240,25 @@ fn run_program<O: Sink>(
     budget: u64,
     goal: &[u8],
     out: &mut O,
+    last: &mut Option<Machine>,
 ) -> Status
+    requires { last.old ≡ None }
     ensures output { (us : List (Facts Text)) (o : Outcome) → IsLinkOf us program → GoalGives us budget goal.now o → Gives result o (O.written out.old) (O.written out.new) }
     ensures write_fault { result ≡ Status.WriteFault → Rose (O.faults out.old) (O.faults out.new) }
     ensures read { result ≢ Status.ReadFault }
     ensures used { result ≢ Status.Usage }
+    ensures leaves { Leaves (has_ended result) (λ m. (us : List (Facts Text)) → IsLinkOf us program → HasRun us budget goal.now m) last.new }
 {
     goals_are_decided();
     match run_goal(alloc, program, budget, goal, Show::Lines, out) {
         Ok(GoalEnd::NoGoal { number, byte }) => {
             told_or_not(alloc, faulty_goal(alloc, number, byte), out)
         }
-        Ok(GoalEnd::Ended(finished)) => told_or_not(alloc, end_of(alloc, &finished), out),
+        Ok(GoalEnd::Ended(finished)) => {
+            let status = told_or_not(alloc, end_of(alloc, &finished), out);
+            *last = machine_after(status, finished);
+            status
+        }
         Err(RunFault::WriteFault) => Status::WriteFault,
         Err(RunFault::NoMemory) => Status::NoMemory,
     }

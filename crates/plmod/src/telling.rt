@@ -2,7 +2,7 @@
 ghost use Rattle.std.specs.Prelude.{◌≡◌, [], length, map, get_or, Some, IfOk};
 ghost use Rattle.unit_format.specs.Views.{unit_facts};
 ghost use Rattle.link_model.specs.Faults.{fault, first_link};
-ghost use Rattle.prep_report.specs.Lines.{not_unit_text};
+ghost use Rattle.prep_report.specs.Lines.{not_unit_text, linked_text};
 ghost use Rattle.plmod.specs.declared.status.Status.TheVariants.{NotUnit};
 ghost use Rattle.plmod.specs.Outcome.{told};
 ghost use Rattle.mod_visible.specs.Visibility.{IsVisibility};
@@ -11,13 +11,14 @@ ghost use Rattle.plmod.specs.Telling.{asked_of, lines_of, AreDecoded};
 ghost use Rattle.plmod.specs.MadeOutcome.{outcome_of, CanBeTold};
 ghost use Rattle.plmod.specs.Meets.{Meets};
 
-use crate::counting::{count_modules, count_procedures};
 use crate::fetch::{fetch_all, read_status};
 use crate::made::{Made, tell};
 use crate::status::Status;
 use link_faults::first_fault;
+use mod_linker::{LinkFault, link};
 use mod_visible::Visibility;
 use pl_atoms::{Bytes, Name, NoMemory};
+use pl_store::Program;
 use plm_io::{Shelf, Sink};
 use prep_report::{fault_line, linked_line, not_unit_line, show_rows};
 use std::alloc::Global;
@@ -120,14 +121,43 @@ fn units_told(alloc: Global, asked: Asked, names: &[Name], units: &[Unit]) -> Re
     ensures gives { IfOk result (λ made. outcome_of made ≡ linked_outcome (lines_of asked (map unit_facts units.now)) names.now (first_link (map unit_facts units.now))) }
     ensures ready { IfOk result CanBeTold }
 {
+    match asked {
+        Asked::Rows => rows_told(alloc, names, units),
+        Asked::Counts => counts_told(alloc, names, units),
+    }
+}
+
+// What is visible in the modules of units, or their first link fault.
+fn rows_told(alloc: Global, names: &[Name], units: &[Unit]) -> Result<Made, NoMemory>
+    ensures gives { IfOk result (λ made. outcome_of made ≡ linked_outcome (show_lines (map unit_facts units.now)) names.now (first_link (map unit_facts units.now))) }
+    ensures ready { IfOk result CanBeTold }
+{
     let visibility = Visibility::of(alloc, units)?;
     match first_fault(alloc, units, &visibility)? {
         Some(fault) => faulty_link(alloc, names, fault.number, fault.unit, fault.byte),
         None => Ok(Made {
-            line: lines(alloc, asked, units, &visibility)?,
+            line: row_lines(alloc, units, &visibility)?,
             status: Status::Done,
             stored: None,
         }),
+    }
+}
+
+// How many modules and procedures the program of units has, or their first link fault.
+fn counts_told(alloc: Global, names: &[Name], units: &[Unit]) -> Result<Made, NoMemory>
+    ensures gives { IfOk result (λ made. outcome_of made ≡ linked_outcome (link_lines (map unit_facts units.now)) names.now (first_link (map unit_facts units.now))) }
+    ensures ready { IfOk result CanBeTold }
+{
+    match link(alloc, units) {
+        Ok(program) => Ok(Made {
+            line: count_line(alloc, &program)?,
+            status: Status::Done,
+            stored: None,
+        }),
+        Err(LinkFault::Fault { number, unit, byte }) => {
+            faulty_link(alloc, names, number, unit, byte)
+        }
+        Err(LinkFault::NoMemory) => Err(NoMemory),
     }
 }
 
@@ -160,22 +190,6 @@ pub fn word_of(names: &[Name], place: usize) -> &[u8]
     }
 }
 
-// What is asked of units without a link fault.
-fn lines(
-    alloc: Global,
-    asked: Asked,
-    units: &[Unit],
-    visibility: &Visibility,
-) -> Result<Bytes, NoMemory>
-    requires { IsVisibility (map unit_facts units.now) visibility.now }
-    ensures { IfOk result (λ lines. lines ≡ lines_of asked (map unit_facts units.now)) }
-{
-    match asked {
-        Asked::Rows => row_lines(alloc, units, visibility),
-        Asked::Counts => count_line(alloc, units),
-    }
-}
-
 // A line for each procedure that is visible in a module.
 fn row_lines(alloc: Global, units: &[Unit], visibility: &Visibility) -> Result<Bytes, NoMemory>
     requires { IsVisibility (map unit_facts units.now) visibility.now }
@@ -185,11 +199,10 @@ fn row_lines(alloc: Global, units: &[Unit], visibility: &Visibility) -> Result<B
     show_rows(alloc, &rows, visibility.names())
 }
 
-/// The line of how many modules and procedures there are.
-pub fn count_line(alloc: Global, units: &[Unit]) -> Result<Bytes, NoMemory>
-    ensures { IfOk result (λ line. line ≡ link_lines (map unit_facts units.now)) }
+/// The line of how many modules and procedures a program has.
+pub fn count_line(alloc: Global, program: &Program) -> Result<Bytes, NoMemory>
+    ensures { IfOk result (λ line. line ≡ linked_text (length program.now.modules) (length program.now.procedures)) }
 {
-    let modules = count_modules(alloc, units)?;
-    let procedures = count_procedures(alloc, units)?;
-    linked_line(alloc, modules, procedures)
+    let tables = program.tables();
+    linked_line(alloc, tables.modules(), tables.procedures())
 }

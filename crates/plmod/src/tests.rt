@@ -40,7 +40,8 @@ fn answer(
     let words = run_words(alloc, budget, goal)?;
     let mut shelf = shelf_with(alloc, text)?;
     let mut out = MemSink::new(alloc, fails);
-    let status = plmod(alloc, &words, &mut shelf, &mut out);
+    let mut last = None;
+    let status = plmod(alloc, &words, &mut shelf, &mut out, &mut last);
     Ok((out, status))
 }
 
@@ -228,7 +229,8 @@ fn prepared(
         add_short(alloc, &mut shelf, "k", bytes)?;
     }
     let mut out = MemSink::new(alloc, CallList::new(alloc));
-    let status = plmod(alloc, &words, &mut shelf, &mut out);
+    let mut last = None;
+    let status = plmod(alloc, &words, &mut shelf, &mut out, &mut last);
     Ok((shelf, out, status))
 }
 
@@ -369,7 +371,8 @@ fn prepare_source(
         words.push(Name::of(alloc, other)?)?;
     }
     let mut out = MemSink::new(alloc, CallList::new(alloc));
-    let _status = plmod(alloc, &words, shelf, &mut out);
+    let mut last = None;
+    let _status = plmod(alloc, &words, shelf, &mut out, &mut last);
     Ok(())
 }
 
@@ -383,7 +386,8 @@ fn linked(alloc: Global, sources: &[Source], command: &str) -> Result<(MemSink, 
         words.push(Name::of(alloc, source.0)?)?;
     }
     let mut out = MemSink::new(alloc, CallList::new(alloc));
-    let status = plmod(alloc, &words, &mut shelf, &mut out);
+    let mut last = None;
+    let status = plmod(alloc, &words, &mut shelf, &mut out, &mut last);
     Ok((out, status))
 }
 

@@ -1,11 +1,12 @@
 //! All that the program does, over any shelf and sink.
-ghost use Rattle.std.specs.Prelude.{◌≢◌, Some, None, [], unwrap_or};
+ghost use Rattle.std.specs.Prelude.{◌≡◌, ◌≢◌, Some, None, [], unwrap_or};
 ghost use Rattle.std.specs.Io.KnownBytes.{Appends};
 ghost use Rattle.plm_io.specs.Files.{file_of};
 ghost use Rattle.plmod.specs.Words.{command_of, order_of};
 ghost use Rattle.plmod.specs.Outcome.{Outcome};
 ghost use Rattle.plmod.specs.Comes.{Comes};
 ghost use Rattle.plmod.specs.Meets.{Meets, bytes_under};
+ghost use Rattle.plmod.specs.Last.{LeavesLast};
 
 use crate::growing::grow;
 use crate::made::put_last;
@@ -14,13 +15,21 @@ use crate::running::{run_texts, run_units};
 use crate::status::Status;
 use crate::telling::{Asked, tell_units};
 use crate::words::{Command, Words, read_words};
+use pl_machine::Machine;
 use plm_io::{QuietShelf, QuietSink, Shelf, Sink};
 use prep_report::usage_line;
 use std::alloc::Global;
 
 /// Does what the words ask for, over these files and this output. What is written, what is put and
 /// the status are a function of the words and the files; each other status has its cause.
-pub fn plmod<S: Shelf, O: Sink>(alloc: Global, words: &Words, shelf: &mut S, out: &mut O) -> Status
+/// `last` gets the machine of a run that has ended, and nothing after any other call.
+pub fn plmod<S: Shelf, O: Sink>(
+    alloc: Global,
+    words: &Words,
+    shelf: &mut S,
+    out: &mut O,
+    last: &mut Option<Machine>,
+) -> Status
     ensures meets { Meets (command_of words.now) result (record {
       file = S.file shelf.old;
       file_after = S.file shelf.new;
@@ -33,10 +42,12 @@ pub fn plmod<S: Shelf, O: Sink>(alloc: Global, words: &Words, shelf: &mut S, out
       faults = O.faults out.old;
       faults_after = O.faults out.new;
     }) }
+    ensures leaves { LeavesLast (command_of words.now) result (S.file shelf.old) last.new }
 {
+    *last = None;
     match read_words(words) {
         None => put_last(alloc, usage_line(), Status::Usage, out),
-        Some(command) => serve(alloc, command, shelf, out),
+        Some(command) => serve(alloc, command, shelf, out, last),
     }
 }
 
@@ -52,7 +63,8 @@ pub fn plmod_quiet(
     ensures output { result ≢ Status.NoMemory → (o : Outcome) → Comes (command_of words.now) (bytes_under (λ name. Some (Some (unwrap_or (file_of shelf.old name) [])))) o →
         Appends (Some out.old) (Some out.new) o.bytes }
 {
-    plmod(alloc, words, shelf, out)
+    let mut last = None;
+    plmod(alloc, words, shelf, out, &mut last)
 }
 
 /// Does a command.
@@ -61,7 +73,9 @@ fn serve<S: Shelf, O: Sink>(
     command: Command<'_>,
     shelf: &mut S,
     out: &mut O,
+    last: &mut Option<Machine>,
 ) -> Status
+    requires { last.old ≡ None }
     ensures meets { Meets (Some (order_of command.entry)) result (record {
       file = S.file shelf.old;
       file_after = S.file shelf.new;
@@ -74,6 +88,7 @@ fn serve<S: Shelf, O: Sink>(
       faults = O.faults out.old;
       faults_after = O.faults out.new;
     }) }
+    ensures leaves { LeavesLast (Some (order_of command.entry)) result (S.file shelf.old) last.new }
 {
     match command {
         Command::Prepare {
@@ -86,13 +101,13 @@ fn serve<S: Shelf, O: Sink>(
             budget,
             goal,
             units,
-        } => run_units(alloc, budget, goal, units, shelf, out),
+        } => run_units(alloc, budget, goal, units, shelf, out, last),
         Command::All {
             budget,
             goal,
             texts,
-        } => run_texts(alloc, budget, goal, texts, shelf, out),
+        } => run_texts(alloc, budget, goal, texts, shelf, out, last),
         Command::Show { units } => tell_units(alloc, Asked::Rows, units, shelf, out),
-        Command::Grow { count, budget } => grow(alloc, count, budget, out),
+        Command::Grow { count, budget } => grow(alloc, count, budget, out, last),
     }
 }

@@ -5,3 +5,4 @@ pub mod Moves
 pub mod Variables
 pub mod Sound
 pub mod Decided
+pub mod RunTokens

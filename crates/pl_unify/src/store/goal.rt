@@ -4,15 +4,15 @@ ghost use Rattle.run_model.specs.Unifier.{Solved};
 ghost use Rattle.pl_unify.specs.Words.{WordIn};
 ghost use Rattle.pl_unify.specs.State.{IsRef, Extends, Grows, tree_at, tree_of_word};
 ghost use Rattle.pl_unify.specs.Shape.{arity};
-ghost use Rattle.pl_unify.specs.Steps.{pair_span};
 ghost use Rattle.pl_unify.specs.Code.{code_tree_in};
-ghost use Rattle.pl_unify.specs.Match.{SolvedBy, code_equations};
+ghost use Rattle.pl_unify.specs.Match.{SolvedBy};
 ghost use Rattle.pl_unify.specs.Arguments.{arguments_of, argument_equations};
 
 #[cfg(test)]
 mod tests;
 
 use super::Store;
+use super::head::Span;
 use crate::code::Code;
 use crate::word::{Ref, Word};
 use pl_atoms::NoMemory;
@@ -76,37 +76,15 @@ impl Store {
             (Solved (argument_equations self.old.state base code.now.words at (arguments_of (tree_at self.old.state goal))) None)) }
     {
         match self.word_at(goal) {
-            Word::Comp(count, _, first) => self.head_places(first, count, code, at, base),
+            Word::Comp(count, _, first) => {
+                let span = Span {
+                    place: first,
+                    code: at,
+                    left: count as usize,
+                };
+                self.match_span(span, code, base)
+            }
             _ => Ok(true),
         }
-    }
-
-    // Solves the equations of `count` places of the store from `first` on and those of the code from `at` on.
-    fn head_places(
-        &mut self,
-        first: usize,
-        count: u8,
-        code: &Code,
-        at: usize,
-        base: usize,
-    ) -> Result<bool, NoMemory>
-        requires first { first + count ≤ length self.old.state.cells }
-        requires places { at + count ≤ length code.now.words }
-        requires base { base ≤ self.old.state.next }
-        ensures extends { Extends self.old.state self.new.state }
-        ensures next { self.new.state.next ≤ max self.old.state.next (code.now.vars + base) }
-        ensures answer { IfOk result (λ yes. MatchBool yes
-            (SolvedBy self.old.state self.new.state (code_equations self.old.state base code.now.words (pair_span first at count)))
-            (Solved (code_equations self.old.state base code.now.words (pair_span first at count)) None)) }
-    {
-        let _len = code.len();
-        let _next = self.next_var();
-        'arguments: for k in 0..count as usize {
-            let word = self.cell(first + k);
-            if !self.match_word(word, code, at + k, base)? {
-                return Ok(false);
-            }
-        }
-        Ok(true)
     }
 }

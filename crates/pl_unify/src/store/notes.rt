@@ -1,10 +1,10 @@
 //! The occurs check, and notes of blocks without unbound variables.
-ghost use Rattle.std.specs.Prelude.{◌≡◌, ℕ, ◌+◌, ◌-◌, ◌<◌, ◌≤◌, ◌^◌, ◌++◌, length, reverse, slice_index_or, IfOk, OnOk, IsTrue};
+ghost use Rattle.std.specs.Prelude.{◌≡◌, ℕ, ◌+◌, ◌-◌, ◌<◌, ◌≤◌, ◌^◌, ◌++◌, length, reverse, slice_index_or, IfOk, IfSome, OnOk, IsTrue};
 ghost use Rattle.run_model.specs.Substitution.{occurs, occurs_any};
 ghost use Rattle.pl_unify.specs.Words.{IsFree, WordIn};
 ghost use Rattle.pl_unify.specs.State.{tree_of_word};
 ghost use Rattle.pl_unify.specs.Prefix.{trees};
-ghost use Rattle.pl_unify.specs.Notes.{GroundBlock, InOrder, Forgotten, visits, visit_trees, StepsIn, Honest, Entered};
+ghost use Rattle.pl_unify.specs.Notes.{GroundBlock, block, InOrder, Forgotten, visits, visit_trees, StepsIn, Honest, Entered};
 
 use super::Store;
 use crate::list::push;
@@ -34,11 +34,34 @@ impl Store {
             Word::Comp(arity, _, first) => (arity, first),
             _ => return Ok(false),
         };
+        if let Some(found) = self.look(n, start, count) {
+            return Ok(found);
+        }
         let mut steps = self.take_steps();
         push_visits(&mut steps, start, count)?;
         let found = self.walk(n, &mut steps);
         self.keep_steps(steps);
         found
+    }
+
+    // Whether the variable is in a block, unless there are compounds in it.
+    fn look(&self, n: usize, first: usize, count: u8) -> Option<bool>
+        requires { first + count ≤ length self.now.state.cells }
+        ensures { IfSome result (λ yes. yes ≡ occurs_any n (block self.now.state first count)) }
+    {
+        let _next = self.next_var();
+        for k in 0..count as usize {
+            match self.word_at(Ref(first + k)) {
+                Word::Var(m) => {
+                    if n == m {
+                        return Some(true);
+                    }
+                }
+                Word::Comp(_, _, _) => return None,
+                _ => {}
+            }
+        }
+        Some(false)
     }
 
     // Whether a walk meets the variable.

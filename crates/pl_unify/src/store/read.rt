@@ -48,6 +48,7 @@ impl Store {
         requires { place < length self.now.state.cells }
         ensures tree { tree_of_word self.now.state result ≡ tree_at self.now.state (record { 0 = place }) }
         ensures within { WordIn (length self.now.state.cells) self.now.state.next result }
+        ensures small { length self.now.state.cells < 2 ^ 63 }
     {
         self.cells[place]
     }

@@ -2,6 +2,7 @@
 ghost use Rattle.std.specs.Prelude.{◌≡◌, []};
 
 use super::Store;
+use super::head::Span;
 use super::notes::Step;
 use crate::list::take_list;
 use crate::word::Word;
@@ -37,19 +38,19 @@ impl Store {
         self.equations = equations;
     }
 
-    // An empty list of equations of places and code.
-    pub(super) fn take_matches(&mut self) -> Vec<(usize, usize)>
+    // An empty list of spans.
+    pub(super) fn take_spans(&mut self) -> Vec<Span>
         ensures empty { result.items ≡ [] }
         ensures state { self.new.state ≡ self.old.state }
     {
-        take_list(&mut self.matches, self.alloc)
+        take_list(&mut self.spans, self.alloc)
     }
 
     // Keeps the list for the next call.
-    pub(super) fn keep_matches(&mut self, matches: Vec<(usize, usize)>)
+    pub(super) fn keep_spans(&mut self, spans: Vec<Span>)
         ensures { self.new.state ≡ self.old.state }
     {
-        self.matches = matches;
+        self.spans = spans;
     }
 
     // An empty list of steps of a walk.

@@ -107,7 +107,7 @@ impl Store {
         if self.occurs(n, word)? {
             return Ok(false);
         }
-        self.reserve(0, 0, 1)?;
+        self.reserve_binding()?;
         self.attach(n, word);
         Ok(true)
     }
@@ -127,7 +127,7 @@ impl Store {
                     if self.occurs(n, word)? {
                         return Ok(false);
                     }
-                    self.reserve(0, 0, 1)?;
+                    self.reserve_binding()?;
                     self.attach(n, word);
                 }
             }

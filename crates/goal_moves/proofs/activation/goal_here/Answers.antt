@@ -11,8 +11,8 @@ build_goal-requires-clause-place c = goal_there c.args.library.now c.args.path.n
 pub build_goal-requires-clause-base : goal.build_goal-requires-clause-base
 build_goal-requires-clause-base c = code_base c.args.library.now c.args.path.now c.args.instruction c.args.setting c.requires.code c.args.node c.requires.well
 
-pub returns : goal.returns
-returns c =
+pub returns-clause-here : goal.returns-clause-here
+returns-clause-here c =
     let b = c.args.library.now in
     let p = c.args.path.now in
     goal_placed b p c.args.instruction c.args.setting c.requires.code c.build_goal.new.path c.args.node c.in_ok-goal.goal c.after-f.result.0 c.after-f.result.1 c.next_of.result c.requires.library c.get-frame.ensures.linked c.requires.well c.requires.depth

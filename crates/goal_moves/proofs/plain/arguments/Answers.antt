@@ -11,7 +11,7 @@ loop-k-preserved c = record {
       let count : c.in-Comp.count ≡ arity (tree_at c.args.store.now.state c.args.goal) = arity-root (tree_at c.args.store.now.state c.args.goal) c.in-Comp.field-0 c.in-Comp.count (sym c.view.ensures ∙ c.in-Comp.is) in
       let below : c.loop-k.k < arity (tree_at c.args.store.now.state c.args.goal) = subst (λ n. c.loop-k.k < n) count c.loop-k-test.true in
       first-more c.args.store.now.state (tree_at c.args.store.now.state c.args.goal) c.loop-k.k (c.loop-k.k + 1) c.loop-k.args.items c.push.new.self.items c.arg.result below
-      c.loop-k.invariant.first c.arg.ensures.place c.arg.ensures.tree c.in_ok-push.ensures.items refl;
+      c.loop-k.invariant.first c.arg.ensures.place c.arg.ensures.tree c.in_ok-push.ensures.ok refl;
 }
 
 pub returns-clause-trees : goal.returns-clause-trees

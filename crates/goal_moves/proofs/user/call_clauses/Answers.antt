@@ -9,16 +9,16 @@ returns-in_default c =
     none_left c.args.library.now c.requires.library c.args.path.now c.args.active c.requires.ready c.requires.row c.args.proc.0 c.requires.seen c.passed.new.path (attempt_of c.args.library.now c.args.active c.args.proc.0 c.in_ok-goal.goal)
     c.in_ok-goal.ensures.others c.in_ok-goal.ensures.grows c.in_ok-goal.ensures.next c.in_ok-goal.ensures.tree refl refl refl (key_view c.key_of-key.result) c.key_of-key.ensures c.in_ok-goal.ensures.store c.in_default.ensures
 
-pub try_clauses-requires-clause-trying : goal.try_clauses-requires-clause-trying
-try_clauses-requires-clause-trying c =
+pub try_from-requires-clause-trying : goal.try_from-requires-clause-trying
+try_from-requires-clause-trying c =
     first_trying c.args.library.now c.requires.library c.args.path.now c.args.active c.requires.ready c.requires.row c.args.proc.0 c.requires.seen c.passed.new.path (record { goal = c.in_ok-goal.goal; setting = c.body_setting.result; rest = c.args.active.rest })
     c.in_ok-goal.ensures.others c.in_ok-goal.ensures.grows c.in_ok-goal.ensures.next c.in_ok-goal.ensures.tree c.body_setting.ensures.env c.body_setting.ensures.depth refl (key_view c.key_of-key.result) c.in-Some.first.0 c.in-Some.ensures c.in_ok-goal.ensures.store c.in_ok-goal.ensures.place c.body_setting.ensures.base
 
 pub returns : goal.returns
 returns c =
-    if_ok_map c.try_clauses.result
-    (λ g. Moved c.args.library.now c.passed.new.path c.try_clauses.new.path (tried c.args.library.now c.passed.new.path (record { goal = c.in_ok-goal.goal; setting = c.body_setting.result; rest = c.args.active.rest }) c.in-Some.first.0) g)
-    (λ g. Moved c.args.library.now c.args.path.now c.try_clauses.new.path (called c.args.library.now c.args.path.now c.args.active.node (goal_items c.args.library.now c.args.path.now c.args.active)) g)
+    if_ok_map c.try_from.result
+    (λ g. Moved c.args.library.now c.passed.new.path c.try_from.new.path (tried c.args.library.now c.passed.new.path (record { goal = c.in_ok-goal.goal; setting = c.body_setting.result; rest = c.args.active.rest }) c.in-Some.first.0) g)
+    (λ g. Moved c.args.library.now c.args.path.now c.try_from.new.path (called c.args.library.now c.args.path.now c.args.active.node (goal_items c.args.library.now c.args.path.now c.args.active)) g)
     (λ g h. first_tried c.args.library.now c.requires.library c.args.path.now c.args.active c.requires.ready c.requires.row c.args.proc.0 c.requires.seen c.passed.new.path (record { goal = c.in_ok-goal.goal; setting = c.body_setting.result; rest = c.args.active.rest })
-    c.in_ok-goal.ensures.others c.in_ok-goal.ensures.grows c.in_ok-goal.ensures.next c.in_ok-goal.ensures.tree c.body_setting.ensures.env c.body_setting.ensures.depth refl (key_view c.key_of-key.result) c.in-Some.first.0 c.try_clauses.new.path g c.key_of-key.ensures c.in-Some.ensures h)
-    c.try_clauses.ensures.moved
+    c.in_ok-goal.ensures.others c.in_ok-goal.ensures.grows c.in_ok-goal.ensures.next c.in_ok-goal.ensures.tree c.body_setting.ensures.env c.body_setting.ensures.depth refl (key_view c.key_of-key.result) c.in-Some.first.0 c.try_from.new.path g c.key_of-key.ensures c.in-Some.ensures h)
+    c.try_from.ensures.moved

@@ -1,6 +1,7 @@
 use Rattle.std.proofs.Common.{refl, ap, ◌∙◌, Err}
 use Rattle.pl_ops.specs.Tables.{operator}
-use Rattle.goal_text.proofs.Runs.{reads_as, reads_none, first-same, within-below}
+use Rattle.goal_text.proofs.Runs.{reads_as, reads_none}
+use Rattle.reading_laws.proofs.RunTokens.{first-same, within-below}
 use Rattle.goal_text.proofs.reading.term_of.Goals as goal
 
 pub returns-in-Ok-clause-term : goal.returns-in-Ok-clause-term

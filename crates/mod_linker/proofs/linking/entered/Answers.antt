@@ -48,5 +48,5 @@ returns c =
     let good = subst (λ (xs : List Item). AreItems names xs) (sym c.as_slice-entries.ensures.value) c.in_ok-items.ensures.items in
     let texts = subst (λ (xs : List Item). map (said_by (text_at names)) (items_view xs) ≡ said us) (sym c.as_slice-entries.ensures.value) c.in_ok-items.ensures.texts in
     entered-holds us names c.in_ok-program.program c.add_modules.new.program c.enter_all.new.self.program c.as_slice-entries.result.now c.in_ok-declared.declared.modes.entries c.enter_all.new.self.known.numbers.entries
-    c.requires.distinct c.requires.user (modules-among names c.args.units.now (taken-among c.args.units.now names c.args.table.now.remaps.items c.requires.taken))
+    c.requires.distinct (units-rules c.args.units.now) c.requires.user (modules-among names c.args.units.now (taken-among c.args.units.now names c.args.table.now.remaps.items c.requires.taken))
     c.in_ok-program.ensures c.in_ok-add_modules.ensures good texts c.in_ok-declared.ensures c.in_ok-enter_all.ensures

@@ -12,9 +12,9 @@ role_of-role-requires-clause-modes c = (AllBy-at (EntryFits (length c.args.remap
 
 pub loop-entry-preserved : goal.loop-entry-preserved
 loop-entry-preserved c =
-    let put : RoleOf ℕ → PlacedOf ℕ = λ r. record { unit = c.args.unit; section = c.args.section; byte = c.entry-item.result.byte; of = c.args.module.0; role = r } in
+    let put : RoleOf ℕ → PlacedOf ℕ = λ r. record { unit = c.args.unit; section = c.args.section; byte = c.entry-item.result.byte; of = c.args.home.0; role = r } in
     ap (λ l. places_view l) c.in_ok-push.ensures.items
-    ∙ entries_more (slice_index c.args.remap.now) c.args.unit c.args.section c.args.module.0 c.args.out.now.items c.loop-entry.out.items c.args.entries.now c.loop-entry.entry-index c.entry-item.result _ c.loop-entry-test.true c.entry-item.is c.loop-entry.invariant (ap put c.role_of-role.ensures)
+    ∙ entries_more (slice_index c.args.remap.now) c.args.unit c.args.section c.args.home.0 c.args.out.now.items c.loop-entry.out.items c.args.entries.now c.loop-entry.entry-index c.entry-item.result _ c.loop-entry-test.true c.entry-item.is c.loop-entry.invariant (ap put c.role_of-role.ensures)
 
 pub returns : goal.returns
-returns c = entries_end (slice_index c.args.remap.now) c.args.unit c.args.section c.args.module.0 c.args.out.now.items c.loop-entry.out.items c.args.entries.now c.loop-entry.entry-index (omega (arith, c.loop-entry-test.false)) c.loop-entry.invariant
+returns c = entries_end (slice_index c.args.remap.now) c.args.unit c.args.section c.args.home.0 c.args.out.now.items c.loop-entry.out.items c.args.entries.now c.loop-entry.entry-index (omega (arith, c.loop-entry-test.false)) c.loop-entry.invariant

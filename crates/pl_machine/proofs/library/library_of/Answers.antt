@@ -19,6 +19,17 @@ of-requires-2-clause-linked c =
 pub of-requires-2-clause-control : goal.of-requires-2-clause-control
 of-requires-2-clause-control c = c.control.ensures.control (by_numbers c.of.new.names) c.in_ok-constructs.ensures.constructs
 
+pub of-requires-3-clause-owners : goal.of-requires-3-clause-owners
+of-requires-3-clause-owners c =
+    let front : IsFront c.into_parts-old.result.0 c.of.new.names =
+    IsFront-trans c.into_parts-old.result.0 c.write_names.new.names c.of.new.names c.write_names.ensures.front
+    (IsFront-trans c.write_names.new.names c.add_names.new.names c.of.new.names c.add_names.ensures.front c.of.ensures.front) in
+    let facts = (more_names c.facts_stay.ensures c.args.program c.into_parts-old.result.1 c.into_parts-old.result.0 c.of.new.names c.into_parts-old.ensures.whole c.into_parts-old.ensures.linked front c.len-count.ensures.distinct).0 in
+    λ i lt. (facts.clauses i lt).procedure
+
+pub of-requires-3-clause-codes : goal.of-requires-3-clause-codes
+of-requires-3-clause-codes c = subst (λ s. IsCodes s c.into_parts-old.result.1.clauses c.in_ok-codes.codes) c.control.ensures.names c.in_ok-codes.ensures
+
 pub returns-clause-library : goal.returns-clause-library
 returns-clause-library c =
     let front : IsFront c.into_parts-old.result.0 c.of.new.names =
@@ -28,6 +39,7 @@ returns-clause-library c =
       facts = (more_names c.facts_stay.ensures c.args.program c.into_parts-old.result.1 c.into_parts-old.result.0 c.of.new.names c.into_parts-old.ensures.whole c.into_parts-old.ensures.linked front c.len-count.ensures.distinct).0;
       constructs = c.in_ok-constructs.ensures.constructs;
       codes = subst (λ s. IsCodes s c.into_parts-old.result.1.clauses c.in_ok-codes.codes) c.control.ensures.names c.in_ok-codes.ensures;
+      targets = c.in_ok-targets.ensures;
     }
 
 pub returns-clause-written : goal.returns-clause-written

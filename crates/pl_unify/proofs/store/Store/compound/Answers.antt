@@ -1,13 +1,11 @@
-use Rattle.std.proofs.Common.{◌≡◌, ◌∙◌, ◌+◌, ◌<◌, ℕ, List, [], ◌∷◌, ◌++◌, ap, sym, subst, refl, arith, rules, length, map, take, get_or}
-use Rattle.std.proofs.lemmas.List.{take_more, map-append, take_all, length-map, drop_all}
+use Rattle.std.proofs.Common.{◌≡◌, ◌∙◌, ◌+◌, ℕ, List, [], ◌∷◌, ◌++◌, ap, sym, subst, arith, rules, length, map, take, get_or}
+use Rattle.std.proofs.lemmas.List.{take_more, map-append, take_all, length-map}
 use Rattle.pl_terms.specs.Trees.{Tree, comp}
-use Rattle.run_model.specs.Substitution.{apply}
 use Rattle.pl_unify.specs.declared.word.Ref.{Ref}
 use Rattle.pl_unify.specs.Prefix.{trees}
-use Rattle.pl_unify.specs.State.{State, Stored, IsRef, Grows, tree_at, bound, base}
+use Rattle.pl_unify.specs.State.{State, Stored, IsRef, Grows, tree_at}
 use Rattle.pl_unify.specs.Making.{AreRefs}
-use Rattle.pl_unify.proofs.Grown.{length-bases_nil}
-use Rattle.pl_unify.proofs.Loading.{Grows-refl, Grows-trans}
+use Rattle.pl_unify.proofs.Loading.{Grows-trans}
 use Rattle.pl_unify.proofs.Compounds.{AreRefs-at, Copied, copied-none, copied-more, copied_compound}
 use Rattle.pl_unify.proofs.store.Store.compound.Goals as goal
 

@@ -1,4 +1,4 @@
-use Rattle.std.proofs.Common.{◌≡◌, ◌≤◌, ◌+◌, length, map, take}
+use Rattle.std.proofs.Common.{◌≤◌, ◌+◌, length, map, take}
 use Rattle.pl_unify.specs.State.{tree_at}
 use Rattle.pl_unify.proofs.Compounds.{Copied}
 use Rattle.pl_unify.proofs.store.Store.compound.Given as goal

@@ -37,3 +37,6 @@ pub returns-clause-answer : goal.returns-clause-answer
 returns-clause-answer c =
     let b = begun (goal.at.returns-clause-answer c).In_ok-push_visits in
     IfOk-one c.walk-found.result _ _ (λ ok d. d ∙ b.rest) c.walk-found.ensures.answer
+
+pub returns-in-Some-clause-answer : goal.returns-in-Some-clause-answer
+returns-in-Some-clause-answer c = c.in-Some.ensures ∙ sym (ap (occurs c.args.n) (tree_of_word-shape c.args.self.now.state c.args.word c.requires.free ∙ ap (shape c.args.self.now.state) c.in-Comp.is))

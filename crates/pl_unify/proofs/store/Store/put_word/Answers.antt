@@ -1,5 +1,5 @@
 use Rattle.std.proofs.Common.{[], ◌∷◌, ◌≡◌, ap, sym, subst}
-use Rattle.std.proofs.lemmas.List.{append-nil, length_push}
+use Rattle.std.proofs.lemmas.List.{append-nil}
 use Rattle.pl_unify.specs.State.{Stored, IsStore}
 use Rattle.pl_unify.proofs.Fields.{fields-grown}
 use Rattle.pl_unify.proofs.Follow.{inside}

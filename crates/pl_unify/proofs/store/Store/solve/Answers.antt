@@ -19,12 +19,12 @@ step : (c : After-attach) → BindStep c.turns.self.state c.turns.work.items c.n
 step c = subst (IsStep c.turns.self.state c.turns.work.items c.next_binding.new.work.items) c.in-Bind.is c.in_ok-next_binding.ensures
 
 bind : (c : After-attach) → Binds c.turns.self.state c.attach.new.self.state c.in-Bind.n (tree_of_word c.turns.self.state c.in-Bind.word)
-bind c = subst (λ s. Binds s c.attach.new.self.state c.in-Bind.n (tree_of_word s c.in-Bind.word)) (c.in_ok-reserve-in-Bind.ensures.state ∙ c.occurs.ensures.state) c.attach.ensures.binds
+bind c = subst (λ s. Binds s c.attach.new.self.state c.in-Bind.n (tree_of_word s c.in-Bind.word)) (c.in_ok-reserve_binding-in-Bind.ensures.state ∙ c.occurs.ensures.state) c.attach.ensures.binds
 
 pub turns-smaller : goal.turns-smaller
 turns-smaller c =
     let s : State = c.turns.self.state in
-    let links : c.attach.new.self.state.links ≡ s.links ++ link c.in-Bind.n c.in-Bind.word ∷ [] = c.attach.ensures.links ∙ ap (λ (x : State). x.links ++ link c.in-Bind.n c.in-Bind.word ∷ []) (c.in_ok-reserve-in-Bind.ensures.state ∙ c.occurs.ensures.state) in
+    let links : c.attach.new.self.state.links ≡ s.links ++ link c.in-Bind.n c.in-Bind.word ∷ [] = c.attach.ensures.links ∙ ap (λ (x : State). x.links ++ link c.in-Bind.n c.in-Bind.word ∷ []) (c.in_ok-reserve_binding-in-Bind.ensures.state ∙ c.occurs.ensures.state) in
     rw (links, (bind c).next) (unbound-push s.next s.links (link c.in-Bind.n c.in-Bind.word) (step c).number (step c).free)
 
 pub turns-preserved : goal.turns-preserved

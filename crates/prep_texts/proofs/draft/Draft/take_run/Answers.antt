@@ -7,7 +7,7 @@ use Rattle.unit_model.specs.Prepared.{ReadsRun}
 use Rattle.prep_texts.specs.Seen.{next_seen}
 use Rattle.prep_texts.specs.Drafts.{state_of}
 use Rattle.prep_texts.proofs.Drafting.{state-grown, well-grown, table_in-state}
-use Rattle.prep_texts.proofs.RunLaws.{from_code, to_code, first-same, within-below}
+use Rattle.reading_laws.proofs.RunTokens.{from_code, to_code, first-same, within-below}
 use Rattle.prep_texts.proofs.draft.Draft.take_run.Goals as goal
 
 pub returns-in-Err-NoTerm-clause-fault : goal.returns-in-Err-NoTerm-clause-fault

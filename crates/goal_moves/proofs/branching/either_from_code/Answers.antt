@@ -1,0 +1,22 @@
+use Rattle.std.proofs.Common.{◌≤◌, length, sym, subst}
+use Rattle.goal_code.specs.declared.instruction.Instruction.TheVariants as I
+use Rattle.goal_records.specs.declared.choice.ChoiceKind.TheVariants.{Branch}
+use Rattle.goal_moves.specs.Control.{OpenedHere}
+use Rattle.goal_moves.proofs.Steady.{floor_fits}
+use Rattle.goal_moves.proofs.CodeMoves.{frame_there}
+use Rattle.goal_moves.proofs.BranchMoves.{moved_either_from}
+use Rattle.goal_moves.proofs.branching.either_from_code.Goals as goal
+
+pub open_here-requires-clause-place : goal.open_here-requires-clause-place
+open_here-requires-clause-place c =
+    subst (λ r. r.f ≤ length c.args.path.now.frames) (sym c.at_place-other.ensures)
+    (frame_there c.args.library.now c.args.path.now (I.Either c.requires.code.0 c.args.left c.args.right c.requires.code.1) c.args.setting c.requires.code.2)
+
+pub open_here-requires-clause-floor : goal.open_here-requires-clause-floor
+open_here-requires-clause-floor c = floor_fits c.args.library.now c.args.path.now c.args.node c.requires.well
+
+pub returns : goal.returns
+returns c =
+    moved_either_from c.args.library.now c.requires.library c.args.path.now c.requires.code.0 c.args.left c.args.right c.requires.code.1 c.args.setting c.requires.code.2 c.get-frame.ensures.linked
+    c.args.node c.requires.well c.requires.depth c.open_here.new.path
+    (subst (λ r. OpenedHere c.args.path.now c.open_here.new.path Branch r.f r.pc c.args.setting c.args.node) c.at_place-other.ensures c.in_ok-open_here.ensures)

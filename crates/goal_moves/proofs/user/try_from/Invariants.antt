@@ -1,0 +1,18 @@
+use Rattle.std.proofs.Common.{◌≡◌, ℕ, ◌-◌, length}
+use Rattle.search_theory.specs.Configurations.{Turns}
+use Rattle.goal_records.specs.Denotation.{linked, language_of, state_of}
+use Rattle.goal_moves.specs.Moves.{tried, IsTrying}
+use Rattle.goal_moves.proofs.user.try_from.Given as goal
+
+abbrev pub invariant-loop-next : goal.invariant-loop-next
+invariant-loop-next l = record {
+  trying : IsTrying l.library l.path l.attempt l.clause.0;
+  state : state_of l.path ≡ state_of l.initial.path;
+  choices : l.path.choices ≡ l.initial.path.choices;
+  depth : l.path.depth ≡ l.initial.path.depth;
+  width : l.path.width ≡ l.initial.path.width;
+  goes : (left : ℕ) → Turns (language_of l.library) (tried l.library l.initial.path l.attempt l.initial.clause.0 left) (tried l.library l.path l.attempt l.clause.0 left);
+}
+
+abbrev pub decreases-loop-next : goal.decreases-loop-next
+decreases-loop-next l = length (linked l.library).clauses - l.clause.0
