@@ -3,6 +3,7 @@ use crate::status::Status;
 use crate::top::{plmod, plmod_quiet};
 use crate::words::Words;
 use pl_atoms::{Name, NoMemory};
+use pl_machine::Machine;
 use plm_io::{CallList, MemShelf, MemSink, QuietShelf, QuietSink};
 use std::alloc::Global;
 use std::test::Fail;
@@ -399,6 +400,55 @@ fn links_units(rt: HostRuntime) -> Result<(), Fail> {
                 assert_eq!(rt; out.bytes(), printed.as_bytes(), "{printed}");
                 assert_eq!(rt; ended, status, "{printed}");
             }
+            Err(_) => assert!(rt; false),
+        }
+    }
+    Ok(())
+}
+
+/// What a call leaves of its run: the steps and the answers of its machine.
+fn left(
+    alloc: Global,
+    shelf: &mut MemShelf,
+    given: &[&str],
+    last: &mut Option<Machine>,
+) -> Result<Option<(u64, u64)>, NoMemory> {
+    let mut words = Words::new(alloc);
+    for word in given {
+        words.push(Name::of(alloc, word)?)?;
+    }
+    let mut out = MemSink::new(alloc, CallList::new(alloc));
+    let _status = plmod(alloc, &words, shelf, &mut out, last);
+    match last {
+        Some(machine) => Ok(Some((machine.steps(), machine.answers()))),
+        None => Ok(None),
+    }
+}
+
+/// Commands in turn over the text `t`, and what each leaves.
+type Leaving = (&'static [&'static str], Option<(u64, u64)>);
+
+const LEAVINGS: [Leaving; 8] = [
+    (&["all", "100", "a.", "t"], Some((4, 2))),
+    (&["prepare", "u", "t"], None),
+    (&["run", "3", "a.", "u"], Some((3, 1))),
+    (&["link", "u"], None),
+    (&["grow", "1", "100"], Some((2, 1))),
+    (&["run", "100", "a a.", "u"], None),
+    (&["run", "100", "throw(b).", "u"], Some((1, 0))),
+    (&["run", "100", "a.", "t"], None),
+];
+
+#[test]
+fn leaves_the_machine_of_a_run(rt: HostRuntime) -> Result<(), Fail> {
+    let Ok(mut shelf) = shelf_with(rt.alloc(), Some("a :- b, c. b. b. c.")) else {
+        assert!(rt; false, "memory is ample");
+        return Ok(());
+    };
+    let mut last = None;
+    for (words, machine) in LEAVINGS {
+        match left(rt.alloc(), &mut shelf, words, &mut last) {
+            Ok(left) => assert_eq!(rt; left, machine, "{words:?}"),
             Err(_) => assert!(rt; false),
         }
     }
