@@ -38,4 +38,5 @@ pub mod ThrowLaws
 pub mod TryLaws
 pub mod Turning
 pub mod UnderLaws
+pub mod ValueLaws
 pub mod WalkLaws

@@ -1,12 +1,12 @@
 -- Which clauses are tried after a clause.
-use Rattle.std.proofs.Common.{◌≡◌, ℕ, suc, ◌+◌, ◌<◌, Bool, true, false, ◌&&◌, List, [], ◌∷◌, ◌++◌, Some, None, refl, sym, ap, ◌∙◌, subst, arith, length, drop, drop-cons, map, filter, get_or, nat_eq, cond, find}
+use Rattle.std.proofs.Common.{◌≡◌, ℕ, suc, ◌+◌, ◌<◌, Bool, true, false, ◌&&◌, List, [], ◌∷◌, ◌++◌, Some, None, refl, sym, ap, ◌∙◌, subst, arith, length, get_or, nat_eq, cond, find}
 use Rattle.std.specs.Prelude.{nat_le}
-use Rattle.std.proofs.lemmas.Bool.{eq-eqb, eqb-true}
+use Rattle.std.proofs.lemmas.Bool.{eqb-true}
 use Rattle.pl_unify.specs.State.{tree_at}
 use Rattle.goal_model.specs.Choices.{Key, key_of, fits}
 use Rattle.pl_store.specs.Linked.{Entered, no_clause, clause_at, may_match}
 use Rattle.pl_store.specs.Places.{places_from, next_place}
-use Rattle.pl_store.specs.Walks.{clauses_of, clauses_from_place, clause_of, any_fits, Stops, StopsAt}
+use Rattle.pl_store.specs.Walks.{clauses_from_place, any_fits, Stops, StopsAt}
 use Rattle.pl_store.proofs.WalkLaws.{walks}
 use Rattle.goal_records.specs.declared.library.Library.{Library}
 use Rattle.goal_records.specs.declared.path.Path.{Path}

@@ -150,7 +150,7 @@ module _ (n : Naming ℕ) (b : Builtin) (l : List (Tree ℕ)) where
       builtin-of (row_called (n.text f) (count (cons t us))) f (cons t us)
       (unless (is_named n f (codes "call") && nat_lt (count us) 8) (calling t us) (other_row n f (cons t us)) (λ h. cc) e)
 
-  either-not : (t u : Tree ℕ) → either_row n t u ≡ plain b l → ⊥
+  pub either-not : (t u : Tree ℕ) → either_row n t u ≡ plain b l → ⊥
   either-not (var v) u e = cc
   either-not (int z) u e = cc
   either-not (atom a) u e = cc

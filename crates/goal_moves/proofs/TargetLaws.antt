@@ -43,7 +43,7 @@ count_apply : (bs : List (ℕ × Tree ℕ)) (ts : Trees ℕ) → count (apply_al
 count_apply [] ts = refl
 count_apply (b ∷ bs) ts = count_apply bs (replace_all b.0 b.1 ts) ∙ count_replace b.0 b.1 ts
 
-root_stands : (bs : List (ℕ × Tree ℕ)) (base : ℕ) (t : Tree ℕ) → IsNamed (root t) → root (apply bs (raise base t)) ≡ root t
+pub root_stands : (bs : List (ℕ × Tree ℕ)) (base : ℕ) (t : Tree ℕ) → IsNamed (root t) → root (apply bs (raise base t)) ≡ root t
 root_stands bs base (var v) h = absurd h
 root_stands bs base (int z) h = absurd h
 root_stands bs base (atom a) h = ap root (apply-atom bs a)
@@ -78,6 +78,12 @@ module _ (b : Library) (p : Path) (c : Instruction) (st : Setting) (code : IsCod
   pub targets_there : st.clause < length b.targets
   targets_there = let lt = clause_linked in let count = lib.targets.count in omega (arith, lt, count)
 
+  -- what is kept for the instruction of a goal
+  pub kept_target : c ≡ Goal (goal_of c) (next_of c) → IsTarget b.constructs b.tables.rows (home_of b.tables st.clause) (root (code_tree (bodies b st.clause).words (goal_of c))) (target_at b.targets st.clause p.pc)
+  kept_target plain =
+      subst (λ i. HasTarget b.constructs b.tables.rows (home_of b.tables st.clause) (bodies b st.clause).words i (target_at b.targets st.clause p.pc)) plain
+      ((lib.targets.each st.clause clause_linked).targets p.pc c code.code)
+
   -- a goal that was put into the store has the target that is kept for its instruction
   pub goal_target : (q : Path) (a : Active) (t : Target) (home : ℕ) → c ≡ Goal (goal_of c) (next_of c) → t ≡ target_at b.targets st.clause p.pc → home ≡ (led_at b.targets st.clause).home
       → tree_at (state_of q) a.goal ≡ code_tree_in (state_of p) st.base (bodies b st.clause).words (goal_of c) → IsOfTarget b q a home t
@@ -85,7 +91,5 @@ module _ (b : Library) (p : Path) (c : Instruction) (st : Setting) (code : IsCod
       let kept = lib.targets.each st.clause clause_linked in
       let m : ℕ = home_of b.tables st.clause in
       let word : Tree ℕ = code_tree (bodies b st.clause).words (goal_of c) in
-      let has : IsTarget b.constructs b.tables.rows m (root word) (target_at b.targets st.clause p.pc) =
-      subst (λ i. HasTarget b.constructs b.tables.rows m (bodies b st.clause).words i (target_at b.targets st.clause p.pc)) plain (kept.targets p.pc c code.code) in
       of_target b q a home m (root word) t lib (from ∙ kept.home) (λ named. ap root tree ∙ root_stands (bound (state_of p)) st.base word named)
-      (subst (IsTarget b.constructs b.tables.rows m (root word)) (sym is) has)
+      (subst (IsTarget b.constructs b.tables.rows m (root word)) (sym is) (kept_target plain))

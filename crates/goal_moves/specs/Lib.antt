@@ -6,3 +6,4 @@ pub mod Moves
 pub mod Throwing
 pub mod Walking
 pub mod Goals
+pub mod Values

@@ -22,8 +22,6 @@ use Rattle.goal_moves.specs.declared.active.Active.{Active}
 use Rattle.goal_moves.specs.declared.going.Going.{Going}
 use Rattle.goal_moves.specs.declared.going.Going.TheVariants.{On, Fails, Halts, Uncaught}
 use Rattle.goal_moves.specs.declared.user.Attempt.{Attempt}
-use Rattle.goal_moves.specs.declared.walking.Stand.{Stand}
-use Rattle.goal_moves.specs.declared.walking.Stand.TheVariants as S
 
 -- ---- configurations
 
@@ -133,15 +131,6 @@ pub record IsCode (b : Library) (p : Path) (c : Instruction) (st : Setting) : Ty
   pub frame : place_get (reverse p.frames) p.f ≡ Some (record { parent = parent; ppc = ppc; part = P.Body; setting = st })
   pub code : instruction_at (bodies b st.clause).code p.pc ≡ Some c
   pub goal : is_goal c ≡ true
-
--- what stands first on a path, where a search turned to it
-abbrev pub StandsAt : (b : Library) → (ℕ → Configuration (language_of b)) → Path → Stand → Type 0
-StandsAt b x p (S.Code c st) = IsCode b p c st × ((left : ℕ) → Turns (language_of b) (x left) (search_at b p (point_here b p) left))
-StandsAt b x p (S.Term goal st rest) =
-    IsRef (state_of p) goal × (rest.f ≤ length p.frames) × (st.base ≤ (state_of p).next)
-    × ((left : ℕ) → Turns (language_of b) (x left) (search_at b p (At (record { depth = p.depth; items = goal_items b p (record { goal = goal; setting = st; rest = rest; node = p.depth }); world = world_here b p })) left))
-StandsAt b x p S.Fails = (left : ℕ) → Turns (language_of b) (x left) (search_at b p (Over Failed) left)
-StandsAt b x p S.Answers = (left : ℕ) → Turns (language_of b) (x left) (search_at b p (At (record { depth = p.depth; items = []; world = world_here b p })) left)
 
 -- a goal was activated, and these bytes were written
 pub record Activated (b : Library) (old new : Path) (x : ℕ → Configuration (language_of b)) (before after : List ℕ) (g : Going) : Type 0 where

@@ -15,7 +15,7 @@ ghost use Rattle.pl_ops.specs.Tables.{operator};
 ghost use Rattle.goal_code.specs.Runs.{goal_of, next_of};
 ghost use Rattle.pl_unify.specs.Code.{code_tree_in};
 ghost use Rattle.goal_moves.specs.Control.{Grew, GoalHere};
-ghost use Rattle.goal_moves.specs.Moves.{goal_items, called, thrown, tried, resumed, IsReady, IsTrying, Moved, Entered, here, IsCode, StandsAt, Activated};
+ghost use Rattle.goal_moves.specs.Moves.{goal_items, called, thrown, tried, resumed, IsReady, IsTrying, Moved, Entered, here, IsCode, Activated};
 
 use crate::active::{Active, Rest};
 use crate::branching::{cut_from_code, either_from_code, if_from_code};
@@ -179,7 +179,7 @@ fn build_goal(
 }
 
 // Where the term of an instruction stands.
-fn place_of(instruction: Instruction) -> usize
+pub(crate) fn place_of(instruction: Instruction) -> usize
     ensures { result ≡ goal_of instruction }
 {
     match instruction {

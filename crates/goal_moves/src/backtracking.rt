@@ -11,7 +11,7 @@ ghost use Rattle.goal_terms.specs.Goals.{IsRow};
 ghost use Rattle.goal_records.specs.Denotation.{linked, naming, bodies, state_of, items_here, search_at, answers_of, setting_in};
 ghost use Rattle.goal_records.specs.Well.{IsLibrary, IsWell, IsWellWith, floor_of};
 ghost use Rattle.goal_moves.specs.declared.going.Going.TheVariants.{Fails};
-ghost use Rattle.goal_moves.specs.Moves.{goal_items, called, thrown, tried, resumed, IsReady, IsTrying, Moved, Entered, here, IsCode, StandsAt, Activated};
+ghost use Rattle.goal_moves.specs.Moves.{goal_items, called, thrown, tried, resumed, IsReady, IsTrying, Moved, Entered, here, IsCode, Activated};
 
 use crate::active::Rest;
 use crate::collecting::gather;

@@ -21,7 +21,7 @@ ghost use Rattle.goal_records.specs.declared.choice.ChoiceKind.TheVariants as Ch
 ghost use Rattle.pl_unify.specs.declared.word.Ref.{Ref as Place};
 ghost use Rattle.std.specs.Prelude.{Option};
 ghost use Rattle.goal_moves.specs.declared.going.Going.TheVariants.{Fails};
-ghost use Rattle.goal_moves.specs.Moves.{answering, goal_items, called, thrown, tried, resumed, IsReady, IsTrying, Moved, Entered, here, IsCode, StandsAt, Activated};
+ghost use Rattle.goal_moves.specs.Moves.{answering, goal_items, called, thrown, tried, resumed, IsReady, IsTrying, Moved, Entered, here, IsCode, Activated};
 
 use crate::active::{Active, Rest};
 use crate::control::{argument_setting, construct_of, open_here, taken_for_goal};

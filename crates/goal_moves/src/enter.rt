@@ -13,7 +13,7 @@ ghost use Rattle.goal_records.specs.Well.{IsLibrary, IsWell, IsWellWith, floor_o
 ghost use Rattle.goal_records.specs.declared.library.Library.{Library as LibraryOf};
 ghost use Rattle.pl_unify.specs.Making.{AreRefs};
 ghost use Rattle.goal_moves.specs.Entering.{calls_at};
-ghost use Rattle.goal_moves.specs.Moves.{IsOne, goal_items, called, thrown, tried, resumed, IsReady, IsTrying, Moved, Entered, here, IsCode, StandsAt, Activated};
+ghost use Rattle.goal_moves.specs.Moves.{IsOne, goal_items, called, thrown, tried, resumed, IsReady, IsTrying, Moved, Entered, here, IsCode, Activated};
 
 use crate::active::Rest;
 use goal_frames::{Frame, Part, Setting};

@@ -13,6 +13,7 @@ use crate::active::Active;
 use crate::going::Going;
 use crate::plain::do_row;
 use crate::user::call_clauses;
+use crate::values::{do_value_goal, value_goal};
 use goal_code::Instruction;
 use goal_frames::Setting;
 use goal_records::{Library, Path};
@@ -43,6 +44,9 @@ pub(crate) fn goal_from_code(
     ensures activated { IfOk result (λ g. Activated library.old path.old path.new (called library.old path.old node (items_here library.old path.old path.old.f path.old.pc)) text.old text.new g) }
 {
     let target = library.targets.get(setting.clause, path.pc);
+    if let Some(goal) = value_goal(library, path, instruction, setting, target) {
+        return do_value_goal(library, path, instruction, setting, node, goal);
+    }
     let home = library.targets.home(setting.clause);
     let active = goal_here(library, path, instruction, setting, node)?;
     run_target(alloc, library, table, path, active, target, home, text)

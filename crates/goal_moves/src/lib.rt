@@ -12,8 +12,9 @@ mod goals;
 mod going;
 mod plain;
 mod raising;
+mod standing;
 mod user;
-mod walking;
+mod values;
 
 pub use activation::{activate_code, activate_term};
 pub use active::{Active, Rest};
@@ -22,4 +23,4 @@ pub use collecting::keep_answer;
 pub use enter::enter_goals;
 pub use going::Going;
 pub use raising::raise;
-pub use walking::{Stand, walk};
+pub use standing::{Stand, instruction};

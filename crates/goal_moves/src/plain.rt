@@ -40,7 +40,6 @@ pub fn do_row(
 {
     let args = arguments(alloc, &path.store, active.goal)?;
     let caller = active.setting.caller;
-    let before = library.names.len();
     let outcome = call(
         alloc,
         &mut path.store,
@@ -52,10 +51,6 @@ pub fn do_row(
         text,
     )?;
     let _store = path.store.next_var();
-    // The names that built-in predicates make are there before a run begins.
-    if library.names.len() != before {
-        return Err(NoMemory);
-    }
     match outcome {
         Outcome::Yes => {
             path.f = active.rest.f;

@@ -19,7 +19,7 @@ use crate::active::Rest;
 use crate::collecting::copy_of;
 use crate::enter::enter_goals;
 use crate::going::Going;
-use crate::walking::instruction;
+use crate::standing::instruction;
 use goal_code::Instruction;
 use goal_frames::{Part, Setting};
 use goal_records::{Choice, ChoiceKind, Library, Path};

@@ -28,7 +28,7 @@ ghost use Rattle.goal_model.specs.Environments.{body_place};
 ghost use Rattle.pl_store.specs.Linked.{procedure_at, visible_in};
 ghost use Rattle.pl_store.specs.Rules.{indicator_of as goal_indicator};
 ghost use Rattle.goal_moves.specs.Clauses.{IsProcedureOf, passed_goal, NothingFits, FitsNext, WasTried, body_rest, IsProper};
-ghost use Rattle.goal_moves.specs.Moves.{goal_items, called, thrown, tried, resumed, IsReady, IsTrying, Moved, Entered, here, IsCode, StandsAt, Activated};
+ghost use Rattle.goal_moves.specs.Moves.{goal_items, called, thrown, tried, resumed, IsReady, IsTrying, Moved, Entered, here, IsCode, Activated};
 
 use crate::active::{Active, Rest};
 use crate::enter::enter_body;

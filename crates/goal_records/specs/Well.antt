@@ -4,6 +4,7 @@ use Rattle.pl_terms.specs.Trees.{Tree}
 use Rattle.pl_unify.specs.declared.word.Ref.{Ref}
 use Rattle.pl_unify.specs.declared.store.Mark.{Mark}
 use Rattle.pl_unify.specs.State.{State, state_at, tree_at, IsRef, IsMark, IsStore}
+use Rattle.pl_builtin_ends.specs.Made.{HasNames}
 use Rattle.goal_model.specs.Choices.{key_of, fits, choices}
 use Rattle.pl_store.specs.Linked.{Linked, procedure_at, clause_at}
 use Rattle.pl_store.specs.Rules.{indicator_of}
@@ -20,9 +21,10 @@ use Rattle.goal_records.specs.declared.library.Library.{Library}
 use Rattle.goal_records.specs.declared.path.Path.{Path}
 use Rattle.goal_records.specs.Denotation.{outer_of, state_of, linked, naming, frames_on}
 
--- a library as a run needs it
+-- a library as a run needs it: a linked program with the names that built-in procedures make, and what goals lead to
 pub record IsLibrary (b : Library) : Type 0 where
   pub facts : IsLinked (linked b)
+  pub made : HasNames b.names
   pub constructs : AreConstructs (naming b) b.constructs
   pub codes : IsCodes b.constructs.names.control (linked b).clauses b.codes
   pub targets : AreTargets b.constructs b.tables b.codes b.targets

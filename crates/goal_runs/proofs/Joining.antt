@@ -1,5 +1,5 @@
 -- What a machine's run gives, over texts.
-use Rattle.std.proofs.Common.{◌≡◌, ◌∙◌, ℕ, ◌+◌, ◌-◌, Option, Result, Ok, Err, OnErr, List, map, length, nat_eq, ap, sym, subst, arith}
+use Rattle.std.proofs.Common.{◌≡◌, ◌∙◌, ℕ, ◌+◌, ◌-◌, Option, Result, Ok, Err, OnErr, true, List, map, length, nat_eq, ap, sym, subst, arith}
 use Rattle.std.specs.Prelude.{IsErrAnd, IsErrOf}
 use Rattle.std.proofs.KnownBytes.{Appends-nil}
 use Rattle.plm_io.specs.Causes.{AppendsFront}
@@ -61,9 +61,9 @@ module _ (old : Machine) (r : NumberOutcomes) (q : Outcomes) (same : SameRun (te
       ∙ ap (λ es. bytes_by show (events_shown (operator standard) vs es)) same.events
 
   -- and the end is the end over texts
-  pub same-end : (p : Program Text) (budget : ℕ) (new : Machine) (e : End2) → SaysWhat old p → old.budget ≡ budget → old.answers ≡ 0 → Ran old new e r
+  pub same-end : (p : Program Text) (budget : ℕ) (new : Machine) (e : End2) → SaysWhat old p → old.budget ≡ budget → old.answers ≡ 0 → Ran old new e r → new.over ≡ true
       → IsFinished p budget (record { machine = new; end = e }) q
-  same-end p budget new e says all none ran = record {
+  same-end p budget new e says all none ran over = record {
     program = subst (λ (b : Library). SaysSame b.names (program_of (linked b)) p) (sym ran.same.0) says;
     shown =
         ap (λ b. end_text (operator standard) b.names e) ran.same.0
@@ -75,6 +75,7 @@ module _ (old : Machine) (r : NumberOutcomes) (q : Outcomes) (same : SameRun (te
     answers =
         ran.answers
         ∙ ap stopped (counted old.answers (length (answers_of r.events)) none ∙ sym (answers-by old.library.names r.events) ∙ ap (λ es. length (answers_of es)) same.events);
+    over = over;
   }
     where
       counted : (a n : ℕ) → a ≡ 0 → a + n ≡ n
@@ -86,11 +87,11 @@ module _ (law : SaysSameFurther) (runs : RunsByTexts) (l : Linked) (goal : ReadT
   abbrev whole : NumberOutcomes
   whole = run_of (naming m.library) nat_eq (program_of (linked m.library)) goal.term budget
 
-  pub ended : (new : Machine) (e : End2) → ((r : NumberOutcomes) → Remains m r → Ran m new e r)
+  pub ended : (new : Machine) (e : End2) → ((r : NumberOutcomes) → Remains m r → Ran m new e r) → new.over ≡ true
       → (q : Program Text) → Says l q → IsFinished q budget (record { machine = new; end = e }) (run_by q l.names goal budget)
-  ended new e ran q says =
+  ended new e ran over q says =
       same-end m whole (run_by q l.names goal budget) (same-run law runs l goal budget m q ordered start below says) q budget new e
-      (same-program law l goal budget m q ordered start says) start.budget start.answers (ran whole start.remains)
+      (same-program law l goal budget m q ordered start says) start.budget start.answers (ran whole start.remains) over
 
   pub put : (show : Show) (P : List ℕ → Type 0) → ((r : NumberOutcomes) → Remains m r → P (shown_by m show r.events))
       → (q : Program Text) → Says l q → P (bytes_of show goal (run_by q l.names goal budget))

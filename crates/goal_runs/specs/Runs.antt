@@ -1,5 +1,5 @@
 -- What comes of a goal over linked units.
-use Rattle.std.specs.Prelude.{◌≡◌, ℕ, ◌-◌, List, [], map, length, Option}
+use Rattle.std.specs.Prelude.{◌≡◌, ℕ, ◌-◌, List, [], map, length, Option, true}
 use Rattle.std.specs.Io.KnownBytes.{Appends, Keeps}
 use Rattle.pl_terms.specs.Trees.{Tree}
 use Rattle.pl_terms.specs.Order.{texts_of}
@@ -75,6 +75,7 @@ pub record IsFinished (q : Program Text) (budget : ℕ) (f : Finished) (r : Outc
   pub manner : manner f.end ≡ manner_of r.ended
   pub steps : f.machine.budget - f.machine.left ≡ budget - r.left
   pub answers : f.machine.answers ≡ stopped (length (answers_of r.events))
+  pub over : f.machine.over ≡ true
 
 -- how a goal ended: it was none, or its run has ended
 abbrev pub Ends : List (Facts Text) → ℕ → List ℕ → Show → Option (List ℕ) → Option (List ℕ) → GoalEnd → Type 0

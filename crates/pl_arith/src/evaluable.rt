@@ -1,9 +1,10 @@
 //! The evaluable functors.
-ghost use Rattle.std.specs.Prelude.{◌≡◌, ◌<◌, IsTrue};
-ghost use Rattle.pl_atoms.specs.CaseTable.{cases_of, ascends};
+ghost use Rattle.std.specs.Prelude.{◌≡◌, ◌<◌};
+ghost use Rattle.pl_atoms.specs.CaseTable.{case_of, cases_of, is_case};
+ghost use Rattle.pl_arith.specs.Keys.{key, likely_place};
 ghost use Rattle.value_model.specs.Value.{evaluables, operation_at, operation_of};
 
-use pl_atoms::{CaseRow, CaseTable};
+use pl_atoms::CaseRow;
 use value_model::{Binary, Operation, Unary};
 
 // Rows of a table of cases, each a name, a number of arguments and a value.
@@ -48,19 +49,53 @@ const OPERATIONS: [Operation; 14] = [
     Operation::One(Unary::Sign),
 ];
 
+// For each key, the place in `EVALUABLES` of the functor that has it, or 0 where none has it.
+const PLACES: [u8; 32] = [
+    0, 0, 0, 11, 2, 5, 0, 3, 0, 0, 0, 0, 12, 0, 13, 8, 10, 4, 6, 0, 0, 0, 0, 0, 0, 0, 0, 0, 7, 1,
+    9, 0,
+];
+
 /// The operation with this name and number of arguments, where there is one.
 pub fn find_operation(name: &[u8], arity: u8) -> Option<Operation>
     ensures { result ≡ operation_of name.now arity }
 {
     let rows = rows();
-    let place = CaseTable::new(rows).find(name, arity as u32)?;
-    Some(operation_at(rows[place].value))
+    let row = rows[likely_place(name, arity)];
+    if is_row(&row, name, arity) {
+        Some(operation_at(row.value))
+    } else {
+        None
+    }
 }
 
-// The rows of the evaluable functors, which ascend.
+// The only place of a row that may have this name and number of arguments.
+fn likely_place(name: &[u8], arity: u8) -> usize
+    ensures place { result ≡ likely_place name.now arity }
+    ensures below { result < 14 }
+{
+    PLACES[key(name, arity)] as usize
+}
+
+// A number that tells the evaluable functors apart, so that a look at one row is enough.
+fn key(name: &[u8], arity: u8) -> usize
+    ensures key { result ≡ key name.now arity }
+    ensures below { result < 32 }
+{
+    let first = name.first().copied().unwrap_or(0);
+    let last = name.last().copied().unwrap_or(0);
+    (first as usize + 4 * last as usize + 3 * arity as usize) % 32
+}
+
+// Whether the row has this name and number of arguments.
+fn is_row(row: &CaseRow, name: &[u8], arity: u8) -> bool
+    ensures { result ≡ is_case name.now arity (case_of row.now) }
+{
+    row.arity == arity as u32 && row.name == name
+}
+
+// The rows of the evaluable functors.
 fn rows() -> &'static [CaseRow]
-    ensures rows { cases_of result.now ≡ evaluables }
-    ensures ascend { IsTrue (ascends (cases_of result.now)) }
+    ensures { cases_of result.now ≡ evaluables }
 {
     &EVALUABLES
 }

@@ -4,11 +4,13 @@ ghost use Rattle.pl_unify.specs.State.{tree_at, IsRef};
 ghost use Rattle.value_model.specs.Value.{value};
 ghost use Rattle.pl_arith.specs.Tasks.{TasksOk, LeavesOne, Stepped, run, done_one, done_two};
 
+use crate::at_once::value_at_once;
 use crate::evaluable::find_operation;
 use crate::name::text_of;
 use crate::number::{apply_one, apply_two};
 use pl_atoms::Names;
 use pl_unify::{Ref, Store, View};
+use smallvec::SmallVec;
 use std::alloc::Global;
 use value_model::{Binary, EvalFault, Operation, Unary};
 
@@ -20,6 +22,20 @@ enum Task {
     Two(Binary),
 }
 
+// Fills places of a list that have no task yet.
+impl Default for Task {
+    fn default() -> Task {
+        Task::Tree(Ref::default())
+    }
+}
+
+// So many tasks and numbers take no memory of their own.
+const INLINE: usize = 16;
+
+type Tasks = SmallVec<Task, INLINE>;
+
+type Numbers = SmallVec<i64, INLINE>;
+
 /// The value of the term of a place, or why it has none: the first error, where the functor of a compound comes before its
 /// arguments, these from the left, and then the operation (ISO/IEC 13211-1, 9.1).
 ///
@@ -28,8 +44,19 @@ pub fn evaluate(alloc: Global, store: &Store, names: &Names, at: Ref) -> Result<
     requires place { IsRef store.now.state at }
     ensures { result ≢ Err EvalFault.NoMemory → result ≡ value names.now (tree_at store.now.state at) }
 {
-    let mut work = Vec::new(alloc);
-    let mut numbers = Vec::new(alloc);
+    match value_at_once(store, names, at) {
+        Some(value) => value,
+        None => evaluate_parts(alloc, store, names, at),
+    }
+}
+
+// The value of the term of a place, by tasks for all its parts.
+fn evaluate_parts(alloc: Global, store: &Store, names: &Names, at: Ref) -> Result<i64, EvalFault>
+    requires place { IsRef store.now.state at }
+    ensures { result ≢ Err EvalFault.NoMemory → result ≡ value names.now (tree_at store.now.state at) }
+{
+    let mut work = SmallVec::new(alloc);
+    let mut numbers = SmallVec::new(alloc);
     push(&mut work, Task::Tree(at))?;
     while let Some(task) = work.pop() {
         step(store, names, task, &mut work, &mut numbers)?;
@@ -45,8 +72,8 @@ fn step(
     store: &Store,
     names: &Names,
     task: Task,
-    work: &mut Vec<Task>,
-    numbers: &mut Vec<i64>,
+    work: &mut Tasks,
+    numbers: &mut Numbers,
 ) -> Result<(), EvalFault>
     requires tasks { TasksOk store.now.state (task ∷ reverse work.old.items) }
     requires enough { LeavesOne (task ∷ reverse work.old.items) (length (reverse numbers.old.items)) }
@@ -65,8 +92,8 @@ fn open(
     store: &Store,
     names: &Names,
     at: Ref,
-    work: &mut Vec<Task>,
-    numbers: &mut Vec<i64>,
+    work: &mut Tasks,
+    numbers: &mut Numbers,
 ) -> Result<(), EvalFault>
     requires { TasksOk store.now.state (Task.Tree at ∷ reverse work.old.items) }
     ensures ok { OnOk result (Stepped store.now.state names.now (Task.Tree at ∷ reverse work.old.items) (reverse numbers.old.items) (reverse work.new.items) (reverse numbers.new.items)) }
@@ -98,7 +125,7 @@ fn open(
 }
 
 // Puts an operation's result in place of the last number.
-fn finish_one(op: Unary, numbers: &mut Vec<i64>) -> Result<(), EvalFault>
+fn finish_one(op: Unary, numbers: &mut Numbers) -> Result<(), EvalFault>
     requires { 0 < length numbers.old.items }
     ensures ok { OnOk result (done_one op (reverse numbers.old.items) ≡ Ok (reverse numbers.new.items)) }
     ensures err { IfErr result (λ e. e ≢ EvalFault.NoMemory → done_one op (reverse numbers.old.items) ≡ Err e) }
@@ -111,7 +138,7 @@ fn finish_one(op: Unary, numbers: &mut Vec<i64>) -> Result<(), EvalFault>
 }
 
 // Puts an operation's result in place of the last two numbers.
-fn finish_two(op: Binary, numbers: &mut Vec<i64>) -> Result<(), EvalFault>
+fn finish_two(op: Binary, numbers: &mut Numbers) -> Result<(), EvalFault>
     requires { 1 < length numbers.old.items }
     ensures ok { OnOk result (done_two op (reverse numbers.old.items) ≡ Ok (reverse numbers.new.items)) }
     ensures err { IfErr result (λ e. e ≢ EvalFault.NoMemory → done_two op (reverse numbers.old.items) ≡ Err e) }
@@ -132,7 +159,7 @@ fn finish_two(op: Binary, numbers: &mut Vec<i64>) -> Result<(), EvalFault>
 }
 
 // Puts a value last.
-fn push<T: Drop>(list: &mut Vec<T>, value: T) -> Result<(), EvalFault>
+fn push<T: Default + Drop>(list: &mut SmallVec<T, INLINE>, value: T) -> Result<(), EvalFault>
     ensures ok { OnOk result (list.new.items ≡ list.old.items ++ value ∷ []) }
     ensures err { IfErr result (λ e. e ≡ EvalFault.NoMemory) }
 {

@@ -1,13 +1,15 @@
 //! Values at the edges of 64 bits, as another language's integers without a limit give them, and a whole evaluation.
 ghost use Rattle.std.specs.Prelude.{◌≡◌, IfOk, pos};
 ghost use Rattle.pl_terms.specs.Trees.{comp, int, cons, nil};
+ghost use Rattle.pl_terms.specs.Cells.{cells};
+ghost use Rattle.pl_unify.specs.Code.{VarsBelow};
 
 use crate::evaluable::find_operation;
-use crate::evaluate;
 use crate::number::{apply_one, apply_two};
+use crate::{evaluate, value_in_code};
 use pl_atoms::{NameId, Names, NoMemory};
 use pl_terms::{Cell, Term, TermBuf};
-use pl_unify::Store;
+use pl_unify::{Code, Store};
 use std::alloc::Global;
 use std::test::Fail;
 use value_model::{EvalFault, Operation};
@@ -109,5 +111,39 @@ fn a_term_is_evaluated(rt: HostRuntime) -> Result<(), Fail> {
     let mut store = Store::new(rt.alloc());
     let at = store.load(&term, 0)?;
     assert_eq!(rt; evaluate(rt.alloc(), &store, &names, at), Ok(-2));
+    Ok(())
+}
+
+// V0 * 3 - 1
+fn product_less_one(alloc: Global, times: NameId, minus: NameId) -> Result<Term, NoMemory>
+    ensures { IfOk result (λ t. VarsBelow 1 (cells t)) }
+{
+    let mut cells = TermBuf::new(alloc);
+    cells.push(Cell::Comp(minus, 2))?;
+    cells.push(Cell::Comp(times, 2))?;
+    cells.push(Cell::Var(0))?;
+    cells.push(Cell::Int(3))?;
+    cells.push(Cell::Int(1))?;
+    Ok(cells.end_whole())
+}
+
+#[test]
+fn a_term_of_code_has_a_value(rt: HostRuntime) -> Result<(), Fail> {
+    let mut names = Names::new(rt.alloc());
+    let times = names.intern(b"*")?;
+    let minus = names.intern(b"-")?;
+    let term = product_less_one(rt.alloc(), times, minus)?;
+    let code = Code::of(rt.alloc(), &term, 1)?;
+    let place = code.len() - 1;
+    let mut store = Store::new(rt.alloc());
+    store.fresh()?;
+    let base = store.next_var();
+    let variable = store.fresh()?;
+    assert_eq!(rt; value_in_code(&store, &names, &code, place, base), None);
+    let seven = store.place_of_int(7)?;
+    assert!(rt; store.unify(variable, seven)?);
+    assert_eq!(rt; value_in_code(&store, &names, &code, place, base), Some(20));
+    let at = store.build_place(&code, place, base)?;
+    assert_eq!(rt; evaluate(rt.alloc(), &store, &names, at), Ok(20));
     Ok(())
 }

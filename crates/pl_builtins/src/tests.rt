@@ -1,12 +1,15 @@
 //! Rows with successes and errors, by their numbers in the table of built-in procedures.
 ghost use Rattle.std.specs.Prelude.{All, IfOk};
+ghost use Rattle.pl_terms.specs.Cells.{cells};
+ghost use Rattle.pl_unify.specs.Code.{VarsBelow};
 ghost use Rattle.pl_unify.specs.State.{IsRef, Grows};
 
-use crate::{Outcome, add_names, call};
+use crate::{Done, Outcome, add_names, call, unify_code_int};
 use pl_atoms::{Bytes, NameId, Names, NoMemory};
 use pl_builtin_terms::write;
 use pl_ops::OpTable;
-use pl_unify::{Ref, Store};
+use pl_terms::{Cell, Term, TermBuf};
+use pl_unify::{Code, Ref, Store};
 use std::alloc::Global;
 use std::test::Fail;
 use text_model::Quote;
@@ -422,5 +425,36 @@ fn no_name_is_added(rt: HostRuntime) -> Result<(), Fail> {
         assert_eq!(rt; text.as_slice(), want.as_bytes(), "at {row}");
         assert_eq!(rt; names.len(), count, "at {row}");
     }
+    Ok(())
+}
+
+// A variable of a clause.
+fn clause_variable(alloc: Global) -> Result<Term, NoMemory>
+    ensures { IfOk result (λ t. VarsBelow 1 (cells t)) }
+{
+    let mut cells = TermBuf::new(alloc);
+    cells.push(Cell::Var(0))?;
+    Ok(cells.end_whole())
+}
+
+// Whether a variable of code that is bound to an integer is unified with another.
+fn unifies_in_code(alloc: Global, bound: i64, value: i64) -> Result<bool, NoMemory> {
+    let term = clause_variable(alloc)?;
+    let code = Code::of(alloc, &term, 1)?;
+    let place = code.len() - 1;
+    let mut store = Store::new(alloc);
+    store.fresh()?;
+    let base = store.next_var();
+    let variable = store.fresh()?;
+    let integer = store.place_of_int(bound)?;
+    store.unify(variable, integer)?;
+    let done = unify_code_int(&mut store, &code, place, base, value)?;
+    Ok(matches!(done, Done::Yes))
+}
+
+#[test]
+fn a_variable_of_code_is_unified(rt: HostRuntime) -> Result<(), Fail> {
+    assert!(rt; unifies_in_code(rt.alloc(), 7, 7)?);
+    assert!(rt; !unifies_in_code(rt.alloc(), 7, 8)?);
     Ok(())
 }

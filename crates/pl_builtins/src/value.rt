@@ -71,7 +71,8 @@ fn raise(fault: EvalFault) -> Result<Done, NoMemory>
     }
 }
 
-fn holds(relation: Relation, x: i64, y: i64) -> bool
+/// Whether two values stand in a relation (ISO/IEC 13211-1, 8.7.1).
+pub fn holds(relation: Relation, x: i64, y: i64) -> bool
     ensures { result ≡ holds relation x y }
 {
     match relation {

@@ -15,17 +15,17 @@ use Rattle.goal_records.specs.Denotation.{linked, language_of, state_of, items_h
 use Rattle.goal_records.specs.Well.{IsLibrary}
 use Rattle.goal_moves.specs.declared.going.Going.{Going}
 use Rattle.goal_moves.specs.declared.going.Going.TheVariants.{On, Fails, Halts, Uncaught}
-use Rattle.goal_moves.specs.declared.walking.Stand.{Stand}
-use Rattle.goal_moves.specs.declared.walking.Stand.TheVariants as S
+use Rattle.goal_moves.specs.declared.standing.Stand.{Stand}
+use Rattle.goal_moves.specs.declared.standing.Stand.TheVariants as S
 use Rattle.goal_moves.specs.Moves.{Stays}
 use Rattle.goal_moves.proofs.CodeMoves.{first_goal, first_items}
 use Rattle.goal_moves.proofs.PlainLaws.{stays_then}
 use Rattle.prep_report.specs.declared.end.End2.{End2}
 use Rattle.prep_report.specs.declared.end.End2.TheVariants as E
 use Rattle.pl_machine.specs.declared.machine.Machine.{Machine}
-use Rattle.pl_machine.specs.Machine.{IsFirst}
+use Rattle.pl_machine.specs.Fronts.{IsFirst, first_at}
 use Rattle.pl_machine.specs.Running.{Outcomes, Ended, end_of}
-use Rattle.pl_machine.specs.Parts.{IsSo, first_at}
+use Rattle.pl_machine.specs.Parts.{IsSo}
 
 -- ---- moves
 
@@ -110,8 +110,6 @@ module _ (m : Machine) (b : Library) (p : Path) (r : Outcomes) where
       spent_call p.depth (first_goal b p c st first) (items_here b p p.f (next_of c)) (world_here b p) same (subst (λ i. IsSo b (search_at b p (At (record { depth = p.depth; items = i; world = world_here b p })) 0) r) items so)
   spent_first (S.Term goal st rest) library linked first same so =
       spent_call p.depth (record { tree = tree_at (state_of p) goal; env = env_of st; reach = st.depth }) (items_here b p rest.f rest.pc) (world_here b p) same so
-  spent_first S.Fails library linked first same so = absurd first
-  spent_first S.Answers library linked first same so = absurd first
 
   pub ended_spent : (left : ℕ) (stand : Stand) → IsLibrary b → IsLinked p.frames → IsFirst b p stand → m.left ≡ left → left ≡ 0 → IsSo b (search_at b p (first_at b p stand) left) r → Ended m E.Spent r
   ended_spent left stand library linked first same none so =

@@ -1,5 +1,5 @@
 -- Lines of answers over texts.
-use Rattle.std.proofs.Common.{◌≡◌, ℕ, zero, suc, ◌+◌, ◌<◌, ◌≤◌, List, [], ◌∷◌, ◌++◌, Bool, true, if◌then◌else◌, None, refl, sym, ap, ◌∙◌, arith, map, get_or, length, take}
+use Rattle.std.proofs.Common.{◌≡◌, ℕ, zero, suc, ◌+◌, ◌<◌, ◌≤◌, List, [], ◌∷◌, ◌++◌, Bool, true, false, if◌then◌else◌, codes, None, refl, sym, ap, ◌∙◌, arith, map, get_or, length, take}
 use Rattle.std.specs.List.{All}
 use Rattle.std.proofs.lemmas.List.{get_or-map, length-map, take_more, map-append, take_all}
 use Rattle.pl_terms.specs.Trees.{Tree, var}
@@ -9,13 +9,16 @@ use Rattle.pl_terms.specs.declared.read_term.VarName.{VarName}
 use Rattle.pl_ops.specs.Tables.{Operators}
 use Rattle.pl_unify.specs.State.{State, tree_of_var}
 use Rattle.prep_report.specs.declared.answer.Binding.{Binding}
-use Rattle.prep_report.specs.Lines.{is_shown, bindings_text}
+use Rattle.prep_report.specs.Lines.{is_shown, next_text, bindings_text}
 use Rattle.goal_records.specs.Denotation.{template_of}
-use Rattle.pl_machine.specs.Shown.{value_in, next_shown, bindings_shown}
+use Rattle.pl_machine.specs.Shown.{value_in, binding_shown, next_shown, bindings_shown}
 
--- a variable with its value
+-- a variable with its value, or with itself where it is not shown
+abbrev pub value_shown : State → List ℕ → ℕ → Tree ℕ
+value_shown s name n = if is_shown name then tree_of_var s n else var n
+
 abbrev pub bound_as : State → VarName → Binding
-bound_as s v = record { name = v.name; term = tree_of_var s v.number }
+bound_as s v = record { name = v.name; term = value_shown s v.name v.number }
 
 length-from_to : (k n : ℕ) → length (from_to k n) ≡ n
 length-from_to k zero = refl
@@ -37,13 +40,23 @@ module _ (look : Operators) (names : List (List ℕ)) (width : ℕ) (s : State) 
       get_or-map (texts_of names) (map (tree_of_var s) (from_to 0 width)) n (tree_of_var s 0) (var 0) (omega (arith, within, length-map (from_to 0 width) (tree_of_var s)))
       ∙ ap (texts_of names) (get_or-map (tree_of_var s) (from_to 0 width) n 0 (tree_of_var s 0) within ∙ ap (tree_of_var s) number)
 
+  -- the value of a variable is shown over texts, if it is shown
+  next-value : (some shown : Bool) (name : List ℕ) (n : ℕ) → is_shown name ≡ shown → n < width → next_text look names some (record { name = name; term = value_shown s name n }) ≡ next_shown look some name (value_in values n)
+  next-value some true name n e h =
+      ap (λ x. if x then (if some then codes ", " else []) ++ binding_shown look name (texts_of names (if x then tree_of_var s n else var n)) else []) e
+      ∙ ap (λ t. (if some then codes ", " else []) ++ binding_shown look name t) (sym (value-at n h))
+      ∙ ap (λ x. if x then (if some then codes ", " else []) ++ binding_shown look name (value_in values n) else []) (sym e)
+  next-value some false name n e h =
+      ap (λ x. if x then (if some then codes ", " else []) ++ binding_shown look name (texts_of names (if x then tree_of_var s n else var n)) else []) e
+      ∙ ap (λ x. if x then (if some then codes ", " else []) ++ binding_shown look name (value_in values n) else []) (sym e)
+
   -- the bindings over numbers are those over texts
   pub bindings-shown : (some : Bool) (vs : List VarName) → All (λ v. v.number < width) vs → bindings_text look names some (map (bound_as s) vs) ≡ bindings_shown look some vs values
   bindings-shown some [] h = refl
   bindings-shown some (v ∷ vs) h =
       let next : Bool = if is_shown v.name then true else some in
       let here : v.number < width = h zero v (omega arith) in
-      ap (λ t. next_shown look some v.name t ++ bindings_text look names next (map (bound_as s) vs)) (sym (value-at v.number here))
+      ap (λ l. l ++ bindings_text look names next (map (bound_as s) vs)) (next-value some (is_shown v.name) v.name v.number refl here)
       ∙ ap (λ l. next_shown look some v.name (value_in values v.number) ++ l) (bindings-shown next vs (λ k d l. h (suc k) d (omega (arith, l))))
 
 -- one more variable is bound

@@ -1,5 +1,5 @@
 -- Machines that stay in order.
-use Rattle.std.proofs.Common.{◌≡◌, ℕ, ◌+◌, ◌^◌, ◌<◌, ◌≤◌, Option, Some, None, refl, sym, ap, subst, arith, reverse}
+use Rattle.std.proofs.Common.{◌≡◌, ℕ, ◌+◌, ◌^◌, ◌<◌, ◌≤◌, Option, Some, None, true, refl, sym, ap, subst, arith, reverse}
 use Rattle.std.specs.List.{All}
 use Rattle.pl_unify.specs.declared.word.Ref.{Ref}
 use Rattle.pl_unify.specs.State.{Stored, IsStore, Extends}
@@ -10,7 +10,9 @@ use Rattle.goal_records.specs.Well.{IsLibrary, IsWell}
 use Rattle.goal_records.proofs.PathLaws.{grown_well}
 use Rattle.goal_moves.specs.declared.going.Going.{Going}
 use Rattle.pl_machine.specs.declared.machine.Machine.{Machine}
+use Rattle.goal_moves.specs.Walking.{Walked}
 use Rattle.pl_machine.specs.Machine.{IsMachine}
+use Rattle.pl_machine.proofs.FrontLaws.{Placed, placed_well}
 
 -- nothing is there
 pub none_of : {A : Type 0} (o : Option A) → ((x : A) → o ≡ Some x → ⊥) → o ≡ None
@@ -54,3 +56,16 @@ stepped m b p left h one same well low width = record {
   answers = h.answers;
   variables = subst (λ w. All (λ v. v.number < w) m.variables.items) (sym width) h.variables;
 }
+
+-- a path stands elsewhere, before the same items
+pub placed_machine : (m : Machine) (q : Path) → IsMachine m → Placed m.library m.path q → IsMachine (record m { path = q })
+placed_machine m q h placed =
+    moved_machine m q m.going h (placed_well m.library m.path q h.well placed) (let same : q.depth ≡ m.path.depth = ap (λ (r : Path). r.depth) placed.others in omega (arith, same)) (ap (λ (r : Path). r.width) placed.others)
+
+-- a path went on
+pub walked_machine : (m : Machine) (q : Path) (g : Going) → IsMachine m → Walked m.library m.path q → IsMachine (record m { path = q; going = g })
+walked_machine m q g h w = moved_machine m q g h w.well (let same = w.depth in omega (arith, same)) w.width
+
+-- the end is noted
+pub over_machine : (m : Machine) → IsMachine m → IsMachine (record m { over = true })
+over_machine m h = record { library = h.library; table = h.table; well = h.well; room = h.room; counted = h.counted; answers = h.answers; variables = h.variables }

@@ -4,24 +4,29 @@ use Rattle.pl_terms.specs.Trees.{Tree}
 use Rattle.pl_terms.specs.Order.{texts_of}
 use Rattle.pl_ops.specs.Standard.{standard}
 use Rattle.pl_ops.specs.Tables.{operator}
-use Rattle.search_theory.specs.Search.{Ans, Over, Failed, answers_of}
+use Rattle.search_theory.specs.Search.{Ans, At, Over, Failed, answers_of}
 use Rattle.search_theory.specs.Configurations.{Configuration, Turns, Tells}
 use Rattle.goal_model.specs.Table.{shown}
 use Rattle.goal_records.specs.declared.library.Library.{Library}
 use Rattle.goal_records.specs.declared.path.Path.{Path}
-use Rattle.goal_records.specs.Denotation.{language_of, state_of, template_of, point_here, search_at}
+use Rattle.goal_records.specs.Denotation.{language_of, state_of, template_of, items_here, world_here, point_here, search_at}
 use Rattle.goal_records.specs.Well.{IsWell}
 use Rattle.goal_moves.specs.declared.going.Going.{Going}
 use Rattle.goal_moves.specs.declared.going.Going.TheVariants.{On, Fails, Halts, Uncaught}
-use Rattle.goal_moves.specs.declared.walking.Stand.{Stand}
-use Rattle.goal_moves.specs.declared.walking.Stand.TheVariants as S
-use Rattle.goal_moves.specs.Moves.{Stays, StandsAt, Moved, Activated, answering}
+use Rattle.goal_moves.specs.declared.standing.Stand.{Stand}
+use Rattle.goal_moves.specs.declared.standing.Stand.TheVariants as S
+use Rattle.goal_moves.specs.Moves.{Stays, Moved, Activated, answering}
 use Rattle.pl_unify.specs.State.{Extends}
 use Rattle.pl_machine.specs.declared.machine.Machine.{Machine}
 use Rattle.pl_machine.specs.Shown.{answer_shown}
 use Rattle.pl_machine.specs.Running.{Outcomes, Remains, Same, Went, stopped}
-use Rattle.pl_machine.specs.Parts.{IsSo, StandsSo, Failing, Searching, Answering, Awaits, first_at, Acted}
+use Rattle.goal_moves.specs.Walking.{Walked}
+use Rattle.pl_machine.specs.declared.moves.Part.TheVariants as P
+use Rattle.pl_machine.specs.Fronts.{first_at}
+use Rattle.pl_machine.specs.Machine.{IsWaiting}
+use Rattle.pl_machine.specs.Parts.{IsSo, StandsSo, Failing, Searching, Answering, Awaits, Acted}
 use Rattle.pl_machine.proofs.EndLaws.{so_turned, stays_so, Rest, stays_rest}
+use Rattle.pl_machine.proofs.FrontLaws.{Placed, placed_walked, walked_so}
 use Rattle.pl_machine.proofs.ShownLaws.{text-written, text-answer, answers-written}
 use Rattle.pl_machine.proofs.AnswerLaws.{tells_answer}
 
@@ -36,16 +41,6 @@ remains_of m g r e h = subst (Stays m.library (λ x. IsSo m.library x r) m.path 
 
 pub moved_remains : (b : Library) (old new : Path) (x : ℕ → Configuration (language_of b)) (left : ℕ) (g : Going) (r : Outcomes) → Moved b old new x g → IsSo b (x left) r → Stays b (λ y. IsSo b y r) new left g
 moved_remains b old new x left g r m so = stays_so b (x left) new left g r so (m.goes left)
-
--- a search that came to what stands first
-pub stands_first : (b : Library) (x : ℕ → Configuration (language_of b)) (p : Path) (stand : Stand) (left : ℕ) → StandsAt b x p stand → Turns (language_of b) (x left) (search_at b p (first_at b p stand) left)
-stands_first b x p (S.Code c st) left h = h.1 left
-stands_first b x p (S.Term goal st rest) left h = h.3 left
-stands_first b x p S.Fails left h = h left
-stands_first b x p S.Answers left h = h left
-
-pub came_first : (b : Library) (x : ℕ → Configuration (language_of b)) (p : Path) (stand : Stand) (left : ℕ) (r : Outcomes) → StandsAt b x p stand → IsSo b (x left) r → IsSo b (search_at b p (first_at b p stand) left) r
-came_first b x p stand left r h so = so_turned (language_of b) (x left) (search_at b p (first_at b p stand) left) r (stands_first b x p stand left h) so
 
 -- ---- an answer of the run
 
@@ -77,6 +72,8 @@ pub acted_by : (old new : Machine) (stand : Stand) (p : Path) (x : ℕ → Confi
     → Activated old.library p new.path x before after new.going → Acted old stand new before after
 acted_by old new stand p x before after same few answers one starts a = record {
   same = same;
+  answers = answers;
+  shows = λ r so. refl;
   bytes = a.bytes;
   text = a.text;
   went = λ r so.
@@ -99,9 +96,32 @@ acted_by old new stand p x before after same few answers one starts a = record {
 pub acted_noted : (old new : Machine) (stand : Stand) (before after : List ℕ) (peak : ℕ) → Acted old stand new before after → Acted old stand (record new { peak = peak }) before after
 acted_noted old new stand before after peak a = record {
   same = a.same;
+  answers = a.answers;
+  shows = a.shows;
   bytes = a.bytes;
   text = a.text;
   went = λ r so.
       let w : Went old new before after r = a.went r so in
       record { events = w.events; rest = w.rest; remains = w.remains; all = w.all; text = w.text; answers = w.answers };
 }
+
+-- ---- a goal that stands first
+
+-- what stands first where a part of a move waits is what the search has before it
+pub waiting_remains : (m : Machine) (stand : Stand) (r : Outcomes) → IsWaiting m (P.Waits stand) → Awaits m stand r → Remains m r
+waiting_remains m stand r w so = remains_of m On r w.0 (subst (λ point. StandsSo m point r) w.1.2 so)
+
+pub remains_waiting : (m : Machine) (stand : Stand) (r : Outcomes) → IsWaiting m (P.Waits stand) → Remains m r → Awaits m stand r
+remains_waiting m stand r w h = subst (λ point. StandsSo m point r) (sym w.1.2) (remains_at m On r w.0 h)
+
+-- a search whose path went on, without a step
+pub walked_remains : (m : Machine) (q : Path) (g : Going) (r : Outcomes) → g ≡ On → Walked m.library m.path q → Searching m r → Remains (record m { path = q; going = g }) r
+walked_remains m q g r is w so = remains_of (record m { path = q; going = g }) On r is (walked_so m.library m.path q m.left r w so)
+
+-- a search whose path stands elsewhere, before the same items
+pub placed_remains : (m : Machine) (q : Path) → IsWell m.library m.path → Placed m.library m.path q → m.going ≡ On → (r : Outcomes) → Remains m r → Remains (record m { path = q }) r
+placed_remains m q well h is r so = walked_remains m q m.going r is (placed_walked m.library m.path q well h) (remains_at m On r is so)
+
+-- where nothing stands first, there is an answer
+pub nothing_answers : (m : Machine) (r : Outcomes) → items_here m.library m.path m.path.f m.path.pc ≡ [] → Searching m r → Answering m r
+nothing_answers m r none so = subst (λ items. StandsSo m (At (record { depth = m.path.depth; items = items; world = world_here m.library m.path })) r) none so

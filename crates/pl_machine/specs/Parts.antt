@@ -2,15 +2,15 @@
 use Rattle.std.specs.Prelude.{◌≡◌, ℕ, ◌+◌, List, [], ◌++◌}
 use Rattle.search_theory.specs.Search.{At, Over, Failed, PointOf}
 use Rattle.search_theory.specs.Configurations.{Configuration, Sane, value_of}
+use Rattle.goal_model.specs.Table.{shown}
 use Rattle.goal_records.specs.declared.library.Library.{Library}
 use Rattle.goal_records.specs.declared.path.Path.{Path}
 use Rattle.goal_records.specs.Denotation.{language_of, point_here, world_here, search_at}
-use Rattle.goal_moves.specs.declared.walking.Stand.{Stand}
-use Rattle.goal_moves.specs.declared.walking.Stand.TheVariants as S
-use Rattle.goal_moves.specs.Moves.{goal_items}
+use Rattle.goal_moves.specs.declared.standing.Stand.{Stand}
 use Rattle.pl_machine.specs.declared.machine.Machine.{Machine}
 use Rattle.pl_machine.specs.declared.moves.Part.{Part}
 use Rattle.pl_machine.specs.declared.moves.Part.TheVariants as P
+use Rattle.pl_machine.specs.Fronts.{first_at}
 use Rattle.pl_machine.specs.Running.{Outcomes, Remains, Same, Went, Ended}
 
 -- a search is sane, and gives this
@@ -30,14 +30,6 @@ Searching m r = StandsSo m (point_here m.library m.path) r
 
 abbrev pub Answering : Machine → Outcomes → Type 0
 Answering m r = StandsSo m (At (record { depth = m.path.depth; items = []; world = world_here m.library m.path })) r
-
--- where a search stands before what stands first on a path
-abbrev pub first_at : (b : Library) → Path → Stand → PointOf (language_of b)
-first_at b p (S.Code c st) = point_here b p
-first_at b p (S.Term goal st rest) =
-    At (record { depth = p.depth; items = goal_items b p (record { goal = goal; setting = st; rest = rest; node = p.depth }); world = world_here b p })
-first_at b p S.Fails = Over Failed
-first_at b p S.Answers = At (record { depth = p.depth; items = []; world = world_here b p })
 
 -- a goal stands first on a machine's path
 abbrev pub Awaits : Machine → Stand → Outcomes → Type 0
@@ -59,6 +51,8 @@ Did X old new before after (P.Ended e) = Kept old new before after × ((r : Outc
 -- the goal that stood first was activated
 pub record Acted (old : Machine) (stand : Stand) (new : Machine) (before after : List ℕ) : Type 0 where
   pub same : Same old new
+  pub answers : new.answers ≡ old.answers
   pub bytes : List ℕ
   pub text : after ≡ before ++ bytes
   pub went : (r : Outcomes) → Awaits old stand r → Went old new before after r
+  pub shows : (r : Outcomes) (h : Awaits old stand r) → (went r h).events ≡ shown bytes

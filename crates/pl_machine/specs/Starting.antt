@@ -1,5 +1,5 @@
 -- Machines that were made and did not move.
-use Rattle.std.specs.Prelude.{◌≡◌, ℕ, nat_eq, [], length, None}
+use Rattle.std.specs.Prelude.{◌≡◌, ℕ, nat_eq, [], length, None, false}
 use Rattle.pl_atoms.specs.Names.{IsFront}
 use Rattle.pl_terms.specs.declared.read_term.ReadTerm.{ReadTerm}
 use Rattle.naming_laws.specs.SameRun.{HasNames}
@@ -28,6 +28,7 @@ pub record IsStart (l : Linked) (goal : ReadTerm) (steps : ℕ) (m : Machine) : 
   pub variables : m.variables.items ≡ goal.names
   pub budget : m.budget ≡ steps
   pub answers : m.answers ≡ 0
+  pub over : m.over ≡ false
   pub remains : Remains m (run_of (naming m.library) nat_eq (program_of (linked m.library)) goal.term steps)
 
 -- a path on which nothing stands, over a store with the variables of a goal

@@ -2,14 +2,20 @@
 #![tactic(auto)]
 
 mod fault;
+mod front;
 mod library;
 mod line;
 mod machine;
 mod moves;
+mod records;
 mod run;
 
 pub use fault::RunFault;
+pub use goal_records::{Choice, ChoiceKind};
 pub use machine::Machine;
 pub use moves::Progress;
 pub use prep_report::End2 as End;
 pub use run::Show;
+
+#[cfg(test)]
+mod tests;

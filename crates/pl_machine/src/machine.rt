@@ -38,6 +38,7 @@ pub struct Machine {
     pub(crate) left: u64,
     pub(crate) answers: u64,
     pub(crate) peak: usize,
+    pub(crate) over: bool,
 }
 
 impl Machine {
@@ -73,6 +74,7 @@ impl Machine {
             left: budget,
             answers: 0,
             peak: 0,
+            over: false,
         })
     }
 

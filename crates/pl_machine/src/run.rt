@@ -1,5 +1,5 @@
 //! Whole runs.
-ghost use Rattle.std.specs.Prelude.{◌≤◌, IfOk, OnOk, OnErr, IsErrOf};
+ghost use Rattle.std.specs.Prelude.{◌≡◌, ◌≤◌, true, false, IfOk, OnOk, OnErr, IsErrOf};
 ghost use Rattle.std.specs.Io.KnownBytes.{Appends};
 ghost use Rattle.plm_io.specs.Causes.{Rose, AppendsFront};
 ghost use Rattle.pl_machine.specs.Machine.{IsMachine};
@@ -28,7 +28,9 @@ impl Machine {
     /// WriteFault: a put on the output failed. NoMemory: a growth was refused, or the run has more moves than a u64 counts: no run comes
     /// to that.
     pub fn run<O: Sink>(&mut self, alloc: Global, out: &mut O, show: Show) -> Result<End, RunFault>
-        requires { IsMachine self.old }
+        requires machine { IsMachine self.old }
+        requires over { self.old.over ≡ false }
+        ensures over { OnOk result (self.new.over ≡ true) }
         ensures machine { IfOk result (λ e. IsMachine self.new) }
         ensures ran { IfOk result (λ e. (r : Outcomes) → Remains self.old r → Ran self.old self.new e r) }
         ensures all { OnOk result ((r : Outcomes) → Remains self.old r → Appends (O.written out.old) (O.written out.new) (shown_by self.old show r.events)) }
@@ -38,10 +40,13 @@ impl Machine {
     {
         'moves: for _ in 0..u64::MAX {
             let mut text = Bytes::new(alloc);
-            match self.advance(alloc, &mut text)? {
+            match self.proceed(alloc, &mut text)? {
                 Progress::Goal => {}
                 Progress::Shown => put(alloc, out, text.as_slice(), show)?,
-                Progress::Ended(end) => return Ok(end),
+                Progress::Ended(end) => {
+                    self.over = true;
+                    return Ok(end);
+                }
             }
         }
         Err(RunFault::NoMemory)

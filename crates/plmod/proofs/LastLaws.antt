@@ -82,6 +82,7 @@ has_run us budget goal show old new f e = record {
   program = e.4.program;
   steps = e.4.steps;
   answers = e.4.answers;
+  over = e.4.over;
 }
 
 -- ---- what the commands leave

@@ -19,7 +19,7 @@ use Rattle.plmod.specs.Prepares.{AreUnits}
 use Rattle.plmod.specs.Growing.{grow_texts, grow_goal}
 use Rattle.plmod.specs.Meets.{Told, Tells, bytes_under}
 
--- a machine has run a goal over the program of these units: its program, its steps and its answers
+-- a machine has run a goal over the program of these units to the end of its run: its program, its steps and its answers
 pub record HasRun (us : List (Facts Text)) (budget : ℕ) (goal : List ℕ) (m : Machine) : Type 0 where
   pub term : Tree Text
   pub names : List (Text × ℕ)
@@ -27,6 +27,7 @@ pub record HasRun (us : List (Facts Text)) (budget : ℕ) (goal : List ℕ) (m :
   pub program : SaysWhat m (program_of_facts us)
   pub steps : m.budget - m.left ≡ budget - (run_over us term budget).left
   pub answers : m.answers ≡ stopped (length (answers_of (run_over us term budget).events))
+  pub over : m.over ≡ true
 
 -- the same over some units that are these
 abbrev pub HasRunOver : (List (Facts Text) → Type 0) → ℕ → List ℕ → Machine → Type 0

@@ -17,3 +17,6 @@ run_target-requires-clause-target c =
 pub returns-clause-activated : goal.returns-clause-activated
 returns-clause-activated c =
     IfOk-then c.run_target.result c.run_target.ensures.activated (λ g m. activated_here c.args.library.now c.args.path.now c.goal_here.new.path c.run_target.new.path c.args.node c.in_ok-active.active c.args.text.now c.run_target.new.text g c.in_ok-active.ensures.here m)
+
+pub returns-in-Some-clause-activated : goal.returns-in-Some-clause-activated
+returns-in-Some-clause-activated c = IfOk-then c.do_value_goal.result c.do_value_goal.ensures (λ g m. m c.args.text.now)

@@ -14,42 +14,45 @@ use Rattle.std.specs.Int.RustNames.{FitsSigned as SFits}
 use Rattle.std.proofs.lemmas.Int.{to_z-of_z}
 use Rattle.goal_moves.specs.declared.going.Going.TheVariants.{Halts}
 use Rattle.goal_moves.specs.Moves.{Activated, Moved, called, goal_items, thrown}
-use Rattle.goal_moves.proofs.PlainLaws.{front_same, library_same, if_ok, yes-of, no-of, halt-of, error-well, error-of}
+use Rattle.goal_moves.proofs.PlainLaws.{library_same, if_ok, yes-of, no-of, halt-of, error-well, error-of}
 use Rattle.goal_moves.proofs.plain.do_row.Goals as goal
 
 pub returns-in-Yes-clause-activated : goal.returns-in-Yes-clause-activated
 returns-in-Yes-clause-activated c =
     let b = c.args.library.now in
     let p = c.args.path.now in
+    let a = c.args.active in
     let row = c.requires.row in
-    let ts : List (Tree ℕ) = listed (arguments_of (tree_at (state_of p) c.args.active.goal)) in
-    let kept : c.call.new.names ≡ b.names = front_same b.names c.call.new.names c.call.ensures.front (sym c.len.ensures.length ∙ c.if-len-before.false ∙ c.len-before.ensures.length) in
+    let ts : List (Tree ℕ) = listed (arguments_of (tree_at (state_of p) a.goal)) in
+    let kept : c.call.new.names ≡ b.names = c.call.ensures.kept c.requires.library.made in
     let given : map (tree_at (state_of p)) c.as_slice.result.now ≡ ts = ap (map (tree_at (state_of p))) c.as_slice.ensures ∙ c.in_ok-args.ensures.trees in
-    yes-of b p c.args.active c.requires.ready c.args.row row.0 row.1 ts row.2 c.call.new.store c.requires.library.facts.names c.call.new.names kept (map (tree_at (state_of p)) c.as_slice.result.now) given c.args.text.now c.call.new.text c.next_var-store.ensures.store
+    yes-of b p (tree_at (state_of p) a.goal) a.setting a.node a.rest.f a.rest.pc c.requires.ready.depth c.requires.ready.well row.0 ts row.2 c.call.new.store c.next_var-store.ensures.store c.args.text.now c.call.new.text c.args.row row.1 c.requires.library.facts.names c.call.new.names kept (map (tree_at (state_of p)) c.as_slice.result.now) given
     c.in_ok-outcome.outcome c.in-Yes.is c.in_ok-outcome.ensures.outcome c.in_ok-outcome.ensures.text
 
 pub returns-in-No-clause-activated : goal.returns-in-No-clause-activated
 returns-in-No-clause-activated c =
     let b = c.args.library.now in
     let p = c.args.path.now in
+    let a = c.args.active in
     let row = c.requires.row in
-    let ts : List (Tree ℕ) = listed (arguments_of (tree_at (state_of p) c.args.active.goal)) in
-    let kept : c.call.new.names ≡ b.names = front_same b.names c.call.new.names c.call.ensures.front (sym c.len.ensures.length ∙ c.if-len-before.false ∙ c.len-before.ensures.length) in
+    let ts : List (Tree ℕ) = listed (arguments_of (tree_at (state_of p) a.goal)) in
+    let kept : c.call.new.names ≡ b.names = c.call.ensures.kept c.requires.library.made in
     let given : map (tree_at (state_of p)) c.as_slice.result.now ≡ ts = ap (map (tree_at (state_of p))) c.as_slice.ensures ∙ c.in_ok-args.ensures.trees in
-    no-of b p c.args.active c.requires.ready c.args.row row.0 row.1 ts row.2 c.call.new.store c.requires.library.facts.names c.call.new.names kept (map (tree_at (state_of p)) c.as_slice.result.now) given c.args.text.now c.call.new.text c.next_var-store.ensures.store
+    no-of b p (tree_at (state_of p) a.goal) a.setting a.node a.rest.f a.rest.pc c.requires.ready.depth c.requires.ready.well row.0 ts row.2 c.call.new.store c.next_var-store.ensures.store c.args.text.now c.call.new.text c.args.row row.1 c.requires.library.facts.names c.call.new.names kept (map (tree_at (state_of p)) c.as_slice.result.now) given
     c.in_ok-outcome.outcome c.in-No.is c.in_ok-outcome.ensures.outcome c.in_ok-outcome.ensures.text
 
 pub returns-clause-activated : goal.returns-clause-activated
 returns-clause-activated c =
     let b = c.args.library.now in
     let p = c.args.path.now in
+    let a = c.args.active in
     let row = c.requires.row in
-    let ts : List (Tree ℕ) = listed (arguments_of (tree_at (state_of p) c.args.active.goal)) in
-    let kept : c.call.new.names ≡ b.names = front_same b.names c.call.new.names c.call.ensures.front (sym c.len.ensures.length ∙ c.if-len-before.false ∙ c.len-before.ensures.length) in
+    let ts : List (Tree ℕ) = listed (arguments_of (tree_at (state_of p) a.goal)) in
+    let kept : c.call.new.names ≡ b.names = c.call.ensures.kept c.requires.library.made in
     let given : map (tree_at (state_of p)) c.as_slice.result.now ≡ ts = ap (map (tree_at (state_of p))) c.as_slice.ensures ∙ c.in_ok-args.ensures.trees in
     let fits : SFits w64 c.in-Halt.status = search rules in
-    subst (λ z. Activated b p (record p { store = c.call.new.store }) (called b p c.args.active.node (goal_items b p c.args.active)) c.args.text.now c.call.new.text (Halts z)) (sym (to_z-of_z w64 c.in-Halt.status fits)) (
-    halt-of b p c.args.active c.requires.ready c.args.row row.0 row.1 ts row.2 c.call.new.store c.requires.library.facts.names c.call.new.names kept (map (tree_at (state_of p)) c.as_slice.result.now) given c.args.text.now c.call.new.text c.next_var-store.ensures.store
+    subst (λ z. Activated b p (record p { store = c.call.new.store }) (called b p a.node (goal_items b p a)) c.args.text.now c.call.new.text (Halts z)) (sym (to_z-of_z w64 c.in-Halt.status fits)) (
+    halt-of b p (tree_at (state_of p) a.goal) a.setting a.node a.rest.f a.rest.pc c.requires.ready.depth c.requires.ready.well row.0 ts row.2 c.call.new.store c.next_var-store.ensures.store c.args.text.now c.call.new.text c.args.row row.1 c.requires.library.facts.names c.call.new.names kept (map (tree_at (state_of p)) c.as_slice.result.now) given
     c.in-Halt.status c.in_ok-outcome.outcome c.in-Halt.is c.in_ok-outcome.ensures.outcome c.in_ok-outcome.ensures.text
     )
 
@@ -57,12 +60,13 @@ pub raise-requires : goal.raise-requires
 raise-requires c =
     let b = c.args.library.now in
     let p = c.args.path.now in
+    let a = c.args.active in
     let row = c.requires.row in
-    let ts : List (Tree ℕ) = listed (arguments_of (tree_at (state_of p) c.args.active.goal)) in
-    let kept : c.call.new.names ≡ b.names = front_same b.names c.call.new.names c.call.ensures.front (sym c.len.ensures.length ∙ c.if-len-before.false ∙ c.len-before.ensures.length) in
+    let ts : List (Tree ℕ) = listed (arguments_of (tree_at (state_of p) a.goal)) in
+    let kept : c.call.new.names ≡ b.names = c.call.ensures.kept c.requires.library.made in
     let given : map (tree_at (state_of p)) c.as_slice.result.now ≡ ts = ap (map (tree_at (state_of p))) c.as_slice.ensures ∙ c.in_ok-args.ensures.trees in
     let same : record b { names = c.call.new.names } ≡ b = library_same b c.call.new.names kept in
-    let h = error-well b p c.args.active c.requires.ready c.args.row row.0 row.1 ts row.2 c.call.new.store c.requires.library.facts.names c.call.new.names kept (map (tree_at (state_of p)) c.as_slice.result.now) given c.args.text.now c.call.new.text c.next_var-store.ensures.store
+    let h = error-well b p (tree_at (state_of p) a.goal) a.setting a.node a.rest.f a.rest.pc c.requires.ready.depth c.requires.ready.well row.0 ts row.2 c.call.new.store c.next_var-store.ensures.store c.args.text.now c.call.new.text c.args.row row.1 c.requires.library.facts.names c.call.new.names kept (map (tree_at (state_of p)) c.as_slice.result.now) given
     c.in-Error.ball c.in_ok-outcome.outcome c.in-Error.is c.in_ok-outcome.ensures.outcome in
     record {
       library = subst IsLibrary (sym same) c.requires.library;
@@ -74,17 +78,18 @@ pub returns-in-Error-clause-activated : goal.returns-in-Error-clause-activated
 returns-in-Error-clause-activated c =
     let b = c.args.library.now in
     let p = c.args.path.now in
+    let a = c.args.active in
     let row = c.requires.row in
-    let ts : List (Tree ℕ) = listed (arguments_of (tree_at (state_of p) c.args.active.goal)) in
-    let kept : c.call.new.names ≡ b.names = front_same b.names c.call.new.names c.call.ensures.front (sym c.len.ensures.length ∙ c.if-len-before.false ∙ c.len-before.ensures.length) in
+    let ts : List (Tree ℕ) = listed (arguments_of (tree_at (state_of p) a.goal)) in
+    let kept : c.call.new.names ≡ b.names = c.call.ensures.kept c.requires.library.made in
     let given : map (tree_at (state_of p)) c.as_slice.result.now ≡ ts = ap (map (tree_at (state_of p))) c.as_slice.ensures ∙ c.in_ok-args.ensures.trees in
     let l : Library = record b { names = c.call.new.names } in
     let same : l ≡ b = library_same b c.call.new.names kept in
     let mid : Path = record p { store = c.call.new.store } in
     if_ok
-    (λ g. Moved l mid c.raise.new.path (thrown l mid (canon (tree_at (state_of mid) c.in-Error.ball)) (pops (items_here l mid c.args.active.rest.f c.args.active.rest.pc))) g)
-    (λ g. Activated b p c.raise.new.path (called b p c.args.active.node (goal_items b p c.args.active)) c.args.text.now c.call.new.text g)
+    (λ g. Moved l mid c.raise.new.path (thrown l mid (canon (tree_at (state_of mid) c.in-Error.ball)) (pops (items_here l mid a.rest.f a.rest.pc))) g)
+    (λ g. Activated b p c.raise.new.path (called b p a.node (goal_items b p a)) c.args.text.now c.call.new.text g)
     c.raise.result
-    (λ g m. error-of b p c.args.active c.requires.ready c.args.row row.0 row.1 ts row.2 c.call.new.store c.requires.library.facts.names c.call.new.names kept (map (tree_at (state_of p)) c.as_slice.result.now) given c.args.text.now c.call.new.text c.next_var-store.ensures.store
+    (λ g m. error-of b p (tree_at (state_of p) a.goal) a.setting a.node a.rest.f a.rest.pc c.requires.ready.depth c.requires.ready.well row.0 ts row.2 c.call.new.store c.next_var-store.ensures.store c.args.text.now c.call.new.text c.args.row row.1 c.requires.library.facts.names c.call.new.names kept (map (tree_at (state_of p)) c.as_slice.result.now) given
     c.in-Error.ball c.raise.new.path l c.in_ok-outcome.outcome g c.in-Error.is c.in_ok-outcome.ensures.outcome c.in_ok-outcome.ensures.text same m)
     c.raise.ensures

@@ -22,7 +22,7 @@ pub returns-clause-finished : goal.returns-clause-finished
 returns-clause-finished g c =
     ended c.requires.further c.runs_by_texts.ensures c.args.program c.args.goal.now c.args.budget c.in_ok-machine.machine
     c.requires.linked c.in_ok-machine.ensures c.requires.below
-    c.run.new.self c.in_ok-end.end c.in_ok-end.ensures.ran
+    c.run.new.self c.in_ok-end.end c.in_ok-end.ensures.ran c.in_ok-end.ensures.over
 
 pub returns-clause-shown : goal.returns-clause-shown
 returns-clause-shown g c =

@@ -2,6 +2,6 @@ use Rattle.std.proofs.Common.{refl}
 use Rattle.value_model.specs.Value.{evaluables}
 use Rattle.pl_arith.proofs.evaluable.rows.Goals as goal
 
-pub returns-clause-rows : goal.returns-clause-rows
+pub returns : goal.returns
 unfolding evaluables
-returns-clause-rows c = refl
+returns c = refl

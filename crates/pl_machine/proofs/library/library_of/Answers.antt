@@ -2,6 +2,7 @@ use Rattle.std.proofs.Common.{sym, subst}
 use Rattle.pl_atoms.specs.Names.{IsFront, AreDistinct}
 use Rattle.pl_atoms.proofs.Numbers.{IsFront-trans}
 use Rattle.builtin_model.specs.Naming.{by_numbers}
+use Rattle.pl_builtin_ends.proofs.Kept.{HasNames-front}
 use Rattle.clause_code.specs.Codes.{IsCodes}
 use Rattle.pl_store.specs.Linked.{Linked}
 use Rattle.naming_laws.specs.SameRun.{HasNames}
@@ -37,6 +38,7 @@ returns-clause-library c =
     (IsFront-trans c.write_names.new.names c.add_names.new.names c.of.new.names c.add_names.ensures.front c.of.ensures.front) in
     record {
       facts = (more_names c.facts_stay.ensures c.args.program c.into_parts-old.result.1 c.into_parts-old.result.0 c.of.new.names c.into_parts-old.ensures.whole c.into_parts-old.ensures.linked front c.len-count.ensures.distinct).0;
+      made = HasNames-front c.add_names.new.names c.of.new.names c.of.ensures.front c.in_ok-add_names.ensures.ok;
       constructs = c.in_ok-constructs.ensures.constructs;
       codes = subst (λ s. IsCodes s c.into_parts-old.result.1.clauses c.in_ok-codes.codes) c.control.ensures.names c.in_ok-codes.ensures;
       targets = c.in_ok-targets.ensures;

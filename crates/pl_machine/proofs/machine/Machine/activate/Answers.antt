@@ -9,7 +9,7 @@ pub returns-clause-acted : goal.returns-clause-acted
 returns-clause-acted c =
     let m : Machine = c.args.self.now in
     let new : Machine = record c.enter.new.self { going = c.in_ok-going.going } in
-    subst (λ n. Acted m c.args.stand n c.args.text.now c.enter.new.text) (sym c.note.ensures)
+    subst (λ n. Acted m c.args.stand n c.args.text.now c.enter.new.text) (sym c.note.ensures.others)
     (acted_noted m new c.args.stand c.args.text.now c.enter.new.text c.note.new.self.peak c.in_ok-going.ensures.acted)
 
 pub returns-clause-quiet : goal.returns-clause-quiet

@@ -11,6 +11,7 @@ use Rattle.pl_machine.specs.declared.machine.Machine.{Machine}
 use Rattle.pl_machine.specs.Shown.{answer_shown}
 use Rattle.pl_machine.proofs.MachineLaws.{answered_machine, none_of}
 use Rattle.pl_machine.proofs.MoveLaws.{remains_of, moved_remains, went_answer}
+use Rattle.pl_machine.proofs.QuietLaws.{line_grows}
 use Rattle.pl_machine.proofs.machine.Machine.answer.Goals as goal
 
 pub returns-in-Some-clause-did : goal.returns-in-Some-clause-did
@@ -40,3 +41,9 @@ returns-clause-did c =
           (c.in_ok-extend_from_slice.ensures.ok ∙ ap (λ l. c.args.text.now ++ l) c.as_slice-2.ensures)
           (line ∙ ap (λ (vs : List VarName). answer_shown (operator m.table) vs ts) c.as_slice.ensures.value ∙ ap (λ look. answer_shown look m.variables.items ts) c.requires.machine.table) so,
     )
+
+pub returns-clause-grew : goal.returns-clause-grew
+returns-clause-grew c e =
+    let m : Machine = c.args.self.now in
+    let all : All (λ (v : VarName). v.number < m.path.width) c.as_slice.result.now = subst (λ (vs : List VarName). All (λ (v : VarName). v.number < m.path.width) vs) (sym c.as_slice.ensures.value) c.requires.machine.variables in
+    line_grows c.args.text.now c.extend_from_slice.new.self c.in_ok-line.line _ (c.in_ok-extend_from_slice.ensures.ok ∙ ap (λ l. c.args.text.now ++ l) c.as_slice-2.ensures) (c.in_ok-line.ensures.line m.path.width all)

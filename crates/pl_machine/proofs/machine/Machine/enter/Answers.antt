@@ -1,7 +1,7 @@
 use Rattle.std.proofs.Common.{◌≡◌, ◌+◌, ◌-◌, refl, sym, subst, arith}
 use Rattle.goal_records.specs.declared.path.Path.{Path}
 use Rattle.goal_records.specs.Denotation.{items_here}
-use Rattle.goal_moves.specs.declared.walking.Stand.TheVariants as S
+use Rattle.goal_moves.specs.declared.standing.Stand.TheVariants as S
 use Rattle.goal_moves.specs.Moves.{called, goal_items}
 use Rattle.pl_machine.specs.declared.machine.Machine.{Machine}
 use Rattle.pl_machine.specs.Parts.{Acted}

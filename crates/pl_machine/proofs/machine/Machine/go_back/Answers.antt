@@ -26,6 +26,8 @@ returns-in_default c =
     record {
       machine = moved_machine m c.back.new.path c.in_ok-going.going c.requires moved.well moved.low moved.width;
       waits = tt;
+      others = refl;
+      quiet = λ e. cc;
       did = λ text. (
         record { text = refl; same = (refl, refl, refl); answers = refl },
         λ r so. moved_remains m.library m.path c.back.new.path (search_at m.library m.path (Over Failed)) m.left c.in_ok-going.going r moved so,

@@ -55,5 +55,6 @@ returns c =
       variables = c.in_ok-variables.ensures ∙ c.as_slice.ensures;
       budget = refl;
       answers = refl;
+      over = refl;
       remains = subst (λ t. IsFresh p t → Begins b c.start.new.path t c.args.budget c.in_ok-going.going) tree (c.in_ok-going.ensures.begins c.args.budget) fresh;
     }

@@ -9,8 +9,8 @@ use Rattle.pl_machine.proofs.EndLaws.{ended_spent}
 use Rattle.pl_machine.proofs.WentLaws.{gives_goal, gives_ended, gives_shown, gives_quiet}
 use Rattle.pl_machine.proofs.machine.Machine.proceed.Goals as goal
 
-pub returns-then-self-eq0-clause-gives : goal.returns-then-self-eq0-clause-gives
-returns-then-self-eq0-clause-gives c =
+pub returns-then-is_spent-clause-gives : goal.returns-then-is_spent-clause-gives
+returns-then-is_spent-clause-gives c =
     let m : Machine = c.args.self.now in
     let n : Machine = c.settle.new.self in
     let t : List ℕ = c.args.text.now in
@@ -18,7 +18,7 @@ returns-then-self-eq0-clause-gives c =
     let d : Did (Remains m) m n t u (P.Waits c.in-Waits.stand) = subst (Did (Remains m) m n t u) c.in-Waits.is c.in_ok-settle.ensures.did in
     let first : IsWaiting n (P.Waits c.in-Waits.stand) = subst (IsWaiting n) c.in-Waits.is c.in_ok-settle.ensures.waits in
     gives_ended m n t u E.Spent
-    (d.0, λ r h. ended_spent n n.library n.path r n.left c.in-Waits.stand c.in_ok-settle.ensures.machine.library c.get-frame.ensures.linked first refl c.if-self-eq0.true (d.1 r h))
+    (d.0, λ r h. ended_spent n n.library n.path r n.left c.in-Waits.stand c.in_ok-settle.ensures.machine.library c.is_spent.ensures.linked first.1.0 refl (c.is_spent.ensures.spent c.if-is_spent.true) (d.1 r h))
 
 pub returns-in-Quiet-clause-gives : goal.returns-in-Quiet-clause-gives
 returns-in-Quiet-clause-gives c =

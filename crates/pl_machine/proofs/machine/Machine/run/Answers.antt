@@ -1,4 +1,4 @@
-use Rattle.std.proofs.Common.{◌≡◌, ◌≤◌, ℕ, List, [], Option, refl, sym, subst, ap, rules, arith}
+use Rattle.std.proofs.Common.{◌≡◌, ◌∙◌, ◌≤◌, ℕ, List, [], Option, refl, sym, subst, ap, rules, arith}
 use Rattle.std.specs.Io.KnownBytes.{Appends}
 use Rattle.plm_io.specs.Causes.{AppendsFront}
 use Rattle.pl_machine.specs.declared.machine.Machine.{Machine}
@@ -6,19 +6,20 @@ use Rattle.pl_machine.specs.declared.run.Show.{Show}
 use Rattle.pl_machine.specs.declared.moves.Progress.TheVariants as P
 use Rattle.pl_machine.specs.Running.{Gives, bytes_by}
 use Rattle.pl_machine.proofs.RunLaws.{SoFar, none_put, on_err, gives_fresh, later_then, rose_later, front_so_far, front_moved, more_put, none_more, ran, all_put}
+use Rattle.pl_machine.proofs.WentLaws.{ran_over}
 use Rattle.pl_machine.proofs.machine.Machine.run.Goals as goal
 use Rattle.pl_machine.proofs.machine.Machine.run.Goals.{in-Goal, in-Shown+in_ok-put-in-Shown}
 
 pub moves-init : goal.moves-init
-moves-init g c = record { machine = c.requires; so_far = none_put c.args.self.now c.args.show (g.O.Sink.written c.args.out.now) c.requires.answers; later = omega arith }
+moves-init g c = record { machine = c.requires.machine; over = c.requires.over; so_far = none_put c.args.self.now c.args.show (g.O.Sink.written c.args.out.now) c.requires.machine.answers; later = omega arith }
 
 pub returns-in_err-put-in-Shown-clause-front : goal.returns-in_err-put-in-Shown-clause-front
 returns-in_err-put-in-Shown-clause-front g c =
     let m : Machine = c.args.self.now in
     let l : Machine = c.moves.self in
-    let n : Machine = c.advance.new.self in
-    let t : List ℕ = c.advance.new.text in
-    let gives : Gives l n [] t P.Shown = gives_fresh l n c.new-text.result t c.in_ok-advance.field-0 P.Shown c.new-text.ensures c.in-Shown.is c.in_ok-advance.ensures.gives in
+    let n : Machine = c.proceed.new.self in
+    let t : List ℕ = c.proceed.new.text in
+    let gives : Gives l n [] t P.Shown = gives_fresh l n c.new-text.result t c.in_ok-proceed.field-0 P.Shown c.new-text.ensures c.in-Shown.is c.in_ok-proceed.ensures.gives in
     let front : AppendsFront (g.O.Sink.written c.moves.out) (g.O.Sink.written c.put.new.out) (bytes_by c.args.show t) =
     subst (λ b. AppendsFront (g.O.Sink.written c.moves.out) (g.O.Sink.written c.put.new.out) (bytes_by c.args.show b)) c.as_slice.ensures c.in_err-put-in-Shown.ensures.front in
     on_err c.from_residual-in_err-put-in-Shown.result
@@ -32,42 +33,46 @@ pub returns-in-Ended-clause-ran : goal.returns-in-Ended-clause-ran
 returns-in-Ended-clause-ran g c =
     let m : Machine = c.args.self.now in
     let l : Machine = c.moves.self in
-    let n : Machine = c.advance.new.self in
-    let t : List ℕ = c.advance.new.text in
-    let gives : Gives l n [] t (P.Ended c.in-Ended.end) = gives_fresh l n c.new-text.result t c.in_ok-advance.field-0 (P.Ended c.in-Ended.end) c.new-text.ensures c.in-Ended.is c.in_ok-advance.ensures.gives in
-    ran m l c.args.show (g.O.Sink.written c.args.out.now) (g.O.Sink.written c.moves.out) c.moves.invariant.so_far n c.in-Ended.end gives.1 gives.2 gives.3
+    let n : Machine = c.proceed.new.self in
+    let t : List ℕ = c.proceed.new.text in
+    let gives : Gives l n [] t (P.Ended c.in-Ended.end) = gives_fresh l n c.new-text.result t c.in_ok-proceed.field-0 (P.Ended c.in-Ended.end) c.new-text.ensures c.in-Ended.is c.in_ok-proceed.ensures.gives in
+    λ r h.
+    ran_over m n c.in-Ended.end r
+    (ran m l c.args.show (g.O.Sink.written c.args.out.now) (g.O.Sink.written c.moves.out) c.moves.invariant.so_far n c.in-Ended.end gives.1 gives.2 gives.3 r h)
 
 pub returns-in-Ended-clause-all : goal.returns-in-Ended-clause-all
 returns-in-Ended-clause-all g c =
     let m : Machine = c.args.self.now in
     let l : Machine = c.moves.self in
-    let n : Machine = c.advance.new.self in
-    let t : List ℕ = c.advance.new.text in
-    let gives : Gives l n [] t (P.Ended c.in-Ended.end) = gives_fresh l n c.new-text.result t c.in_ok-advance.field-0 (P.Ended c.in-Ended.end) c.new-text.ensures c.in-Ended.is c.in_ok-advance.ensures.gives in
+    let n : Machine = c.proceed.new.self in
+    let t : List ℕ = c.proceed.new.text in
+    let gives : Gives l n [] t (P.Ended c.in-Ended.end) = gives_fresh l n c.new-text.result t c.in_ok-proceed.field-0 (P.Ended c.in-Ended.end) c.new-text.ensures c.in-Ended.is c.in_ok-proceed.ensures.gives in
     all_put m l c.args.show (g.O.Sink.written c.args.out.now) (g.O.Sink.written c.moves.out) c.moves.invariant.so_far n c.in-Ended.end gives.1 gives.2 gives.3
 
 pub moves-preserved : goal.moves-preserved
 moves-preserved g c =
     let m : Machine = c.args.self.now in
     let l : Machine = c.moves.self in
-    let n : Machine = c.advance.new.self in
-    let t : List ℕ = c.advance.new.text in
+    let n : Machine = c.proceed.new.self in
+    let t : List ℕ = c.proceed.new.text in
     let u : Option (List ℕ) = g.O.Sink.written c.args.out.now in
     let v : Option (List ℕ) = g.O.Sink.written c.moves.out in
     elim c.match-branch-2.branch [
       | in-Goal w ↦
-          let gives : Gives l n [] t P.Goal = gives_fresh l n c.new-text.result t c.in_ok-advance.field-0 P.Goal c.new-text.ensures w.in-Goal.is c.in_ok-advance.ensures.gives in
+          let gives : Gives l n [] t P.Goal = gives_fresh l n c.new-text.result t c.in_ok-proceed.field-0 P.Goal c.new-text.ensures w.in-Goal.is c.in_ok-proceed.ensures.gives in
           record {
-            machine = c.in_ok-advance.ensures.machine;
+            machine = c.in_ok-proceed.ensures.machine;
+            over = c.in_ok-proceed.ensures.over ∙ c.moves.invariant.over;
             so_far = subst (λ o. SoFar m n c.args.show u (g.O.Sink.written o)) (sym w.out-is) (none_more m l c.args.show u v c.moves.invariant.so_far n t gives.1.1 gives.1.0 gives.0);
             later = subst (λ o. g.O.Sink.faults c.args.out.now ≤ g.O.Sink.faults o) (sym w.out-is) c.moves.invariant.later;
           }
       | in-Shown+in_ok-put-in-Shown w ↦
-          let gives : Gives l n [] t P.Shown = gives_fresh l n c.new-text.result t c.in_ok-advance.field-0 P.Shown c.new-text.ensures w.in-Shown.is c.in_ok-advance.ensures.gives in
+          let gives : Gives l n [] t P.Shown = gives_fresh l n c.new-text.result t c.in_ok-proceed.field-0 P.Shown c.new-text.ensures w.in-Shown.is c.in_ok-proceed.ensures.gives in
           let put : Appends v (g.O.Sink.written w.put.new.out) (bytes_by c.args.show t) =
           subst (λ b. Appends v (g.O.Sink.written w.put.new.out) (bytes_by c.args.show b)) w.as_slice.ensures w.in_ok-put-in-Shown.ensures.all in
           record {
-            machine = c.in_ok-advance.ensures.machine;
+            machine = c.in_ok-proceed.ensures.machine;
+            over = c.in_ok-proceed.ensures.over ∙ c.moves.invariant.over;
             so_far = subst (λ o. SoFar m n c.args.show u (g.O.Sink.written o)) (sym w.out-is) (more_put m l c.args.show u v c.moves.invariant.so_far n t gives.1 (g.O.Sink.written w.put.new.out) gives.0 put);
             later = subst (λ o. g.O.Sink.faults c.args.out.now ≤ g.O.Sink.faults o) (sym w.out-is)
                 (later_then (g.O.Sink.faults c.args.out.now) (g.O.Sink.faults c.moves.out) (g.O.Sink.faults w.put.new.out) c.moves.invariant.later w.put.ensures.later);
@@ -77,7 +82,7 @@ moves-preserved g c =
 pub returns-clause-front : goal.returns-clause-front
 returns-clause-front g c = front_so_far c.args.self.now c.moves.self c.args.show (g.O.Sink.written c.args.out.now) (g.O.Sink.written c.moves.out) c.moves.invariant.so_far
 
-pub returns-in_err-advance-clause-front : goal.returns-in_err-advance-clause-front
-returns-in_err-advance-clause-front g c =
+pub returns-in_err-proceed-clause-front : goal.returns-in_err-proceed-clause-front
+returns-in_err-proceed-clause-front g c =
     on_err c.from_residual.result
     (front_so_far c.args.self.now c.moves.self c.args.show (g.O.Sink.written c.args.out.now) (g.O.Sink.written c.moves.out) c.moves.invariant.so_far)

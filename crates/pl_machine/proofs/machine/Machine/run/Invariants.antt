@@ -1,4 +1,4 @@
-use Rattle.std.proofs.Common.{◌≡◌, ℕ, ◌≤◌}
+use Rattle.std.proofs.Common.{◌≡◌, ℕ, ◌≤◌, false}
 use Rattle.pl_machine.specs.Machine.{IsMachine}
 use Rattle.pl_machine.proofs.RunLaws.{SoFar}
 use Rattle.pl_machine.proofs.machine.Machine.run.Given as goal
@@ -6,6 +6,7 @@ use Rattle.pl_machine.proofs.machine.Machine.run.Given as goal
 abbrev pub invariant-moves : goal.invariant-moves
 invariant-moves g l = record {
   machine : IsMachine l.self;
+  over : l.self.over ≡ false;
   so_far : SoFar l.fn.self l.self l.show (g.O.Sink.written l.fn.out) (g.O.Sink.written l.out);
   later : g.O.Sink.faults l.fn.out ≤ g.O.Sink.faults l.out;
 }

@@ -1,9 +1,9 @@
-use Rattle.std.proofs.Common.{subst}
+use Rattle.std.proofs.Common.{◌<◌, length, subst}
 use Rattle.pl_machine.specs.declared.machine.Machine.{Machine}
 use Rattle.pl_machine.specs.declared.moves.Part.TheVariants as P
 use Rattle.pl_machine.specs.Running.{Remains}
 use Rattle.pl_machine.specs.Parts.{Did}
-use Rattle.pl_machine.proofs.WentLaws.{did_then, kept_then}
+use Rattle.pl_machine.proofs.WentLaws.{did_then, kept_then, others_then}
 use Rattle.pl_machine.proofs.machine.Machine.settle.Goals as goal
 
 pub returns-in_default : goal.returns-in_default
@@ -14,6 +14,9 @@ returns-in_default c =
       machine = c.in_ok-other.ensures.machine;
       waits = c.in_ok-other.ensures.waits;
       did = did_then (Remains m) (Remains l) m l c.part.new.self c.args.text.now c.parts.text c.part.new.text c.in_ok-other.other c.parts.invariant.kept c.parts.invariant.remains c.in_ok-other.ensures.did;
+      settled = c.in_default.not-Quiet;
+      others = others_then m l c.part.new.self c.parts.invariant.others c.in_ok-other.ensures.others;
+      grew = λ e. subst (λ t. length t < length c.part.new.text) c.parts.invariant.kept.text (c.in_ok-other.ensures.grew e);
     }
 
 pub parts-preserved : goal.parts-preserved
@@ -24,5 +27,6 @@ parts-preserved c =
     record {
       machine = c.in_ok-other.ensures.machine;
       kept = kept_then m l c.part.new.self c.args.text.now c.parts.text c.part.new.text c.parts.invariant.kept d.0;
+      others = others_then m l c.part.new.self c.parts.invariant.others c.in_ok-other.ensures.others;
       remains = λ r h. d.1 r (c.parts.invariant.remains r h);
     }

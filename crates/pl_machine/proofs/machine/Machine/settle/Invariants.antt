@@ -1,3 +1,4 @@
+use Rattle.std.proofs.Common.{◌≡◌}
 use Rattle.pl_machine.specs.Machine.{IsMachine}
 use Rattle.pl_machine.specs.Running.{Outcomes, Remains}
 use Rattle.pl_machine.specs.Parts.{Kept}
@@ -7,5 +8,6 @@ abbrev pub invariant-parts : goal.invariant-parts
 invariant-parts l = record {
   machine : IsMachine l.self;
   kept : Kept l.fn.self l.self l.fn.text l.text;
+  others : l.self ≡ record l.fn.self { path = l.self.path; going = l.self.going; answers = l.self.answers };
   remains : (r : Outcomes) → Remains l.fn.self r → Remains l.self r;
 }

@@ -1,0 +1,192 @@
+//! Moves and runs of two goals, and the records of a machine.
+ghost use Rattle.std.specs.Prelude.{◌≡◌, [], false, true, length, IfOk};
+ghost use Rattle.pl_terms.specs.Occurrence.{from_to};
+ghost use Rattle.pl_machine.specs.Machine.{IsMachine};
+
+use crate::{End, Machine, Progress, Show};
+use pl_atoms::Bytes;
+use pl_store::Program;
+use pl_terms::{Cell, ReadTerm, Term, TermBuf, VarNames};
+use plm_io::{CallList, MemSink};
+use std::alloc::Global;
+use std::test::Fail;
+
+// `(X = 1 ; X = 2), (Y = 1 ; Y = 2)`
+fn four_answers(alloc: Global, program: &mut Program) -> Result<Term, Fail> {
+    let and = program.intern(b",")?;
+    let or = program.intern(b";")?;
+    let equals = program.intern(b"=")?;
+    let mut cells = TermBuf::new(alloc);
+    cells.push(Cell::Comp(and, 2))?;
+    for variable in 0..2 {
+        cells.push(Cell::Comp(or, 2))?;
+        for value in 1..3 {
+            cells.push(Cell::Comp(equals, 2))?;
+            cells.push(Cell::Var(variable))?;
+            cells.push(Cell::Int(value))?;
+        }
+    }
+    whole(cells)
+}
+
+// `write(x), fail ; write(y)`
+fn two_writes(alloc: Global, program: &mut Program) -> Result<Term, Fail> {
+    let and = program.intern(b",")?;
+    let or = program.intern(b";")?;
+    let write = program.intern(b"write")?;
+    let mut cells = TermBuf::new(alloc);
+    cells.push(Cell::Comp(or, 2))?;
+    cells.push(Cell::Comp(and, 2))?;
+    cells.push(Cell::Comp(write, 1))?;
+    cells.push(Cell::Name(program.intern(b"x")?))?;
+    cells.push(Cell::Name(program.intern(b"fail")?))?;
+    cells.push(Cell::Comp(write, 1))?;
+    cells.push(Cell::Name(program.intern(b"y")?))?;
+    whole(cells)
+}
+
+fn whole(cells: TermBuf) -> Result<Term, Fail> {
+    let Ok(term) = cells.end() else {
+        return Err(Fail::new("no term"));
+    };
+    Ok(term)
+}
+
+// Whether these numbers are none, or 0 and 1.
+fn counts_up(numbers: &[usize]) -> bool
+    ensures { result ≡ true → numbers.now ≡ from_to 0 (length numbers.now) }
+{
+    if numbers.is_empty() {
+        return true;
+    }
+    numbers == [0, 1].as_slice()
+}
+
+// A machine over a program, with no names of variables.
+fn machine_over(alloc: Global, program: Program, term: Term) -> Result<Machine, Fail>
+    ensures machine { IfOk result IsMachine }
+    ensures over { IfOk result (λ m. m.over ≡ false) }
+{
+    let found = term.variables(alloc)?;
+    if !counts_up(found.as_slice()) {
+        return Err(Fail::new("other variables"));
+    }
+    let goal = ReadTerm {
+        term,
+        names: VarNames::new(alloc),
+        byte: 0,
+    };
+    Ok(Machine::new(alloc, program, &goal, 1000)?)
+}
+
+fn answering(alloc: Global) -> Result<Machine, Fail>
+    ensures machine { IfOk result IsMachine }
+    ensures over { IfOk result (λ m. m.over ≡ false) }
+{
+    let mut program = Program::new(alloc);
+    program.add_module(b"user")?;
+    let term = four_answers(alloc, &mut program)?;
+    machine_over(alloc, program, term)
+}
+
+fn writing(alloc: Global) -> Result<Machine, Fail>
+    ensures machine { IfOk result IsMachine }
+    ensures over { IfOk result (λ m. m.over ≡ false) }
+{
+    let mut program = Program::new(alloc);
+    program.add_module(b"user")?;
+    let term = two_writes(alloc, &mut program)?;
+    machine_over(alloc, program, term)
+}
+
+// What stands after one more move, and the bytes that it shows.
+fn moved(alloc: Global, machine: &mut Machine) -> Result<(&'static str, Bytes), Fail>
+    requires { IsMachine machine.old }
+    ensures { IfOk result (λ r. IsMachine machine.new) }
+{
+    let mut text = Bytes::new(alloc);
+    if machine.has_ended() {
+        return Ok(("over", text));
+    }
+    let stands = match machine.advance(alloc, &mut text)? {
+        Progress::Goal => "goal",
+        Progress::Shown => "shown",
+        Progress::Ended(End::Exhausted) => "exhausted",
+        Progress::Ended(_) => "ended",
+    };
+    Ok((stands, text))
+}
+
+// One more move, which comes to this, shows these bytes, and leaves so many records.
+fn moves_to(
+    alloc: Global,
+    machine: &mut Machine,
+    stands: &'static str,
+    bytes: &[u8],
+    choices: usize,
+) -> Result<(), Fail>
+    requires { IsMachine machine.old }
+    ensures { IfOk result (λ r. IsMachine machine.new) }
+{
+    let (now, text) = moved(alloc, machine)?;
+    if now != stands || text.as_slice() != bytes || machine.choices() != choices {
+        return Err(Fail::new("another move"));
+    }
+    Ok(())
+}
+
+#[test]
+fn one_goal_a_move(rt: HostRuntime) -> Result<(), Fail> {
+    let mut machine = writing(rt.alloc())?;
+    moves_to(rt.alloc(), &mut machine, "goal", b"", 1)?;
+    moves_to(rt.alloc(), &mut machine, "shown", b"x", 1)?;
+    moves_to(rt.alloc(), &mut machine, "goal", b"", 0)?;
+    moves_to(rt.alloc(), &mut machine, "shown", b"y", 0)?;
+    moves_to(rt.alloc(), &mut machine, "shown", b"true ;\n", 0)?;
+    moves_to(rt.alloc(), &mut machine, "exhausted", b"", 0)?;
+    assert_eq!(rt; machine.steps(), 4);
+    assert!(rt; machine.has_ended());
+    Ok(())
+}
+
+#[test]
+fn runs_to_the_end(rt: HostRuntime) -> Result<(), Fail> {
+    let mut machine = answering(rt.alloc())?;
+    let mut out = MemSink::new(rt.alloc(), CallList::new(rt.alloc()));
+    let end = machine.run(rt.alloc(), &mut out, Show::Count)?;
+    assert!(rt; matches!(end, End::Exhausted));
+    assert!(rt; machine.has_ended());
+    assert_eq!(rt; out.bytes(), b"".as_slice());
+    assert_eq!(rt; (machine.answers(), machine.steps()), (4, 9));
+    assert_eq!(rt; (machine.peak(), machine.choices()), (2, 0));
+    Ok(())
+}
+
+// Goes back, where there is a record.
+fn goes_back(machine: &mut Machine) -> bool
+    requires { IsMachine machine.old }
+    ensures { result ≡ false → machine.new.path.choices.items ≡ [] }
+{
+    machine.back()
+}
+
+// Cuts where there is no record.
+fn cuts_none(machine: &mut Machine)
+    requires { machine.old.path.choices.items ≡ [] }
+{
+    machine.cut(0);
+}
+
+#[test]
+fn records_of_a_new_machine(rt: HostRuntime) -> Result<(), Fail> {
+    let mut machine = writing(rt.alloc())?;
+    machine.reserve_choice()?;
+    assert_eq!(rt; machine.choices(), 0);
+    if goes_back(&mut machine) {
+        return Err(Fail::new("a record"));
+    }
+    cuts_none(&mut machine);
+    assert_eq!(rt; machine.choices(), 0);
+    assert_eq!(rt; machine.tables().modules(), 1);
+    Ok(())
+}
