@@ -32,7 +32,7 @@ const EVALUABLES: [CaseRow; 14] = rows![
     (b"sign", 1, 13),
 ];
 
-const OPERATIONS: [Operation; 14] = [
+static OPERATIONS: [Operation; 14] = [
     Operation::Two(Binary::Multiply),
     Operation::Two(Binary::Add),
     Operation::One(Unary::Negate),
@@ -50,7 +50,7 @@ const OPERATIONS: [Operation; 14] = [
 ];
 
 // For each key, the place in `EVALUABLES` of the functor that has it, or 0 where none has it.
-const PLACES: [u8; 32] = [
+static PLACES: [u8; 32] = [
     0, 0, 0, 11, 2, 5, 0, 3, 0, 0, 0, 0, 12, 0, 13, 8, 10, 4, 6, 0, 0, 0, 0, 0, 0, 0, 0, 0, 7, 1,
     9, 0,
 ];

@@ -3,3 +3,4 @@ pub mod Deeds
 pub mod Ordering
 pub mod Valued
 pub mod Ended
+pub mod Integers

@@ -6,7 +6,7 @@ use builtin_model::{OrderTest, Relation, Row, TypeTest};
 use text_model::Quote;
 
 // By the numbers of the built-in procedures. The control constructs are none.
-const ROWS: [Option<Row>; 62] = [
+static ROWS: [Option<Row>; 62] = [
     None,
     None,
     None,

@@ -8,7 +8,7 @@ ghost use Rattle.pl_builtin_ends.specs.Meets.{Meets};
 
 use pl_atoms::{NameId, NoMemory};
 use pl_builtin_ends::{Done, settle, unify as unify_terms};
-use pl_unify::{Code, Ref, Store};
+use pl_unify::{Code, Ref, Store, Word};
 
 /// Unifies two terms: `=`, and `unify_with_occurs_check` (ISO/IEC 13211-1, 8.2.1 and 8.2.2).
 pub fn unify(store: &mut Store, left: Ref, right: Ref) -> Result<Done, NoMemory>
@@ -67,13 +67,15 @@ pub fn unify_code_int(
 {
     let mark = store.mark();
     let before = store.next_var();
-    let at = store.build_place(code, place, base)?;
-    let after = store.next_var();
-    if after != before {
+    let left = store.build(code, place, base)?;
+    if store.next_var() != before {
         return Err(NoMemory);
     }
-    let ended = unify_int(store, at, value);
-    settle(store, &mark, ended)
+    if !store.solve_words(left, Word::Int(value))? {
+        store.undo(&mark);
+        return Ok(Done::No);
+    }
+    Ok(Done::Yes)
 }
 
 /// Unifies a term with an atom.

@@ -15,7 +15,7 @@ use Rattle.pl_unify.specs.declared.store.notes.Step.TheVariants.{Visit, Done}
 use Rattle.run_model.specs.Substitution.{apply}
 use Rattle.pl_unify.specs.Words.{Link, bases, bound_onto, IsFree, WordIn}
 use Rattle.pl_unify.specs.State.{State, IsStore, IsMark, state_at, base, bound, tree_at, places, shape, tree_of_word}
-use Rattle.pl_unify.specs.Notes.{IsGround, GroundBlock, GroundThen, Noted, InOrder, IsNotes, Forgotten, no_note, visits, StepsIn, visit_trees, Honest, Entered}
+use Rattle.pl_unify.specs.Notes.{IsGround, GroundBlock, GroundThen, Noted, InOrder, IsNotes, Forgotten, no_note, visits, StepsIn, visit_trees, Honest, Clears, ClearBlock, IsPassed, Entered}
 use Rattle.run_model.proofs.Replaced.{replace-absent, apply-append}
 use Rattle.pl_unify.proofs.Grown.{bases-append, bases-begins, length-bases_nil, bound_onto-append, bound_onto-begins}
 use Rattle.pl_unify.proofs.Adds.{bound-more}
@@ -207,6 +207,7 @@ forgotten_start ground noted o p h i l e = (l, refl)
 pub record Walking (s : State) (n met : ℕ) (es : List Step) (all : Bool) : Type 0 where
   pub below : StepsIn (length s.cells) es
   pub honest : Honest s met (Unit {0}) es
+  pub clears : Clears s n (Unit {0}) es
   pub rest : occurs_any n (trees (visit_trees s es)) ≡ all
 
 abbrev pub step_weight : State → List Step → ℕ
@@ -238,6 +239,25 @@ honest-visits s met P first (suc k) es h =
     honest-visits s met (P × IsGround (tree_at s (record { 0 = first }))) (first + 1) k es
     (honest-weaker s met (P × GroundBlock s first (suc k)) ((P × IsGround (tree_at s (record { 0 = first }))) × GroundBlock s (first + 1) k) es (λ q. (q.0.0, block-suc s first k q.0.1 q.1)) h)
 
+clears-weaker : (s : State) (n : ℕ) (P Q : Type 0) (es : List Step) → (Q → P) → Clears s n P es → Clears s n Q es
+clears-weaker s n P Q [] f h = tt
+clears-weaker s n P Q (Visit p ∷ es) f h =
+    clears-weaker s n (P × (occurs n (tree_at s (record { 0 = p })) ≡ false)) (Q × (occurs n (tree_at s (record { 0 = p })) ≡ false)) es (λ q. (f q.0, q.1)) h
+clears-weaker s n P Q (Done first k was ∷ es) f h = (λ q. h.0 (f q), clears-weaker s n P Q es f h.1)
+
+clear-zero : (s : State) (n first : ℕ) → ClearBlock s n first 0
+clear-zero s n first i l = absurd (omega arith)
+
+clear-suc : (s : State) (n first k : ℕ) → occurs n (tree_at s (record { 0 = first })) ≡ false → ClearBlock s n (first + 1) k → ClearBlock s n first (suc k)
+clear-suc s n first k g b zero l = let e : first + 0 ≡ first = omega arith in subst (λ p. occurs n (tree_at s (record { 0 = p })) ≡ false) (sym e) g
+clear-suc s n first k g b (suc i) l = let e : (first + 1) + i ≡ first + suc i = omega arith in subst (λ p. occurs n (tree_at s (record { 0 = p })) ≡ false) e (b i (omega arith))
+
+clears-visits : (s : State) (n : ℕ) (P : Type 0) (first k : ℕ) (es : List Step) → Clears s n (P × ClearBlock s n first k) es → Clears s n P (visits first k ++ es)
+clears-visits s n P first zero es h = clears-weaker s n (P × ClearBlock s n first 0) P es (λ p. (p, clear-zero s n first)) h
+clears-visits s n P first (suc k) es h =
+    clears-visits s n (P × (occurs n (tree_at s (record { 0 = first })) ≡ false)) (first + 1) k es
+    (clears-weaker s n (P × ClearBlock s n first (suc k)) ((P × (occurs n (tree_at s (record { 0 = first })) ≡ false)) × ClearBlock s n (first + 1) k) es (λ q. (q.0.0, clear-suc s n first k q.0.1 q.1)) h)
+
 steps-in-visits : (n first k : ℕ) (es : List Step) → first + k ≤ n → StepsIn n es → StepsIn n (visits first k ++ es)
 steps-in-visits n first zero es h g = g
 steps-in-visits n first (suc k) es h g = (omega arith, steps-in-visits n (first + 1) k es (omega arith) g)
@@ -268,6 +288,31 @@ absent-block s n first (suc k) h g =
 comp-ground : (s : State) (k first : ℕ) (f : NameId) → first + k ≤ length s.cells → GroundBlock s first k → IsGround (shape s (W.Comp k f first))
 comp-ground s k first f h g n = occurs_any-trees n (take k (drop first (places s))) (absent-block s n first k h g)
 
+absent-clear : (s : State) (n first k : ℕ) → first + k ≤ length s.cells → ClearBlock s n first k → Absent n (take k (drop first (places s)))
+absent-clear s n first zero h g = tt
+absent-clear s n first (suc k) h g =
+    let e : first + 0 ≡ first = omega arith in
+    let one : occurs n (tree_at s (record { 0 = first })) ≡ false = subst (λ p. occurs n (tree_at s (record { 0 = p })) ≡ false) e (g 0 (omega arith)) in
+    subst (Absent n) (sym (span-next s first k h))
+    (one, absent-clear s n (first + 1) k (omega arith) (λ i l. let x : first + suc i ≡ (first + 1) + i = omega arith in subst (λ p. occurs n (tree_at s (record { 0 = p })) ≡ false) x (g (suc i) (omega arith))))
+
+comp-clear : (s : State) (n k first : ℕ) (f : NameId) → first + k ≤ length s.cells → ClearBlock s n first k → occurs n (shape s (W.Comp k f first)) ≡ false
+comp-clear s n k first f h g = occurs_any-trees n (take k (drop first (places s))) (absent-clear s n first k h g)
+
+-- a block is passed from now on
+pub passed-more : (s : State) (n : ℕ) (passed filled : List ℕ) (first k last : ℕ) → IsPassed s n passed → ((p : ℕ) → get_or filled p 0 ≡ get_or passed p 0) → last < length filled
+    → last + 1 ≡ first + k → ClearBlock s n first k → IsPassed s n (set filled last k)
+passed-more s n passed filled first k last was same room f clear p q a b = one (cases_eq p last)
+  where
+    one : (p ≡ last) ⊎ (p ≢ last) → occurs n (tree_at s (record { 0 = q })) ≡ false
+    one (inl e) =
+        let here : get_or (set filled last k) p 0 ≡ k = ap (λ x. get_or (set filled last k) x 0) e ∙ get_or-set_same filled last k 0 room in
+        let at : first + (q - first) ≡ q = omega (arith, a, b, here, e, f) in
+        subst (λ x. occurs n (tree_at s (record { 0 = x })) ≡ false) at (clear (q - first) (omega (arith, a, b, here, e, f)))
+    one (inr ne) =
+        let there : get_or (set filled last k) p 0 ≡ get_or filled p 0 = get_or-set_other filled last p k 0 ne in
+        was p q a (omega (arith, b, there, same p))
+
 -- the walk begins with a compound's arguments
 pub walk_begin : (s s' : State) (n k first : ℕ) (f : NameId) (w : Word) (es old : List Step) → s' ≡ s → w ≡ W.Comp k f first → WordIn (length s.cells) s.next w
     → ((m : ℕ) → w ≡ W.Var m → IsFree m s.links) → es ≡ visits first k ++ reverse old → old ≡ [] → Walking s' n 0 es (occurs n (tree_of_word s w))
@@ -278,12 +323,16 @@ walk_begin s s' n k first f w es old same is within free e none =
     subst (λ z. Walking z n 0 es (occurs n (tree_of_word s w))) (sym same) (subst (λ x. Walking s n 0 x (occurs n (tree_of_word s w))) (sym start) (record {
       below = steps-in-visits (length s.cells) first k [] h tt;
       honest = honest-visits s 0 (Unit {0}) first k [] tt;
+      clears = clears-visits s n (Unit {0}) first k [] tt;
       rest = ap (λ ts. occurs_any n (trees ts)) (visit-trees-visits s first k [] h ∙ append-nil (take k (drop first (places s)))) ∙ tree;
     }))
 
 module _ (s : State) (n met : ℕ) (es : List Step) (all : Bool) (p : ℕ) (w : Word) (k : Walking s n met (Visit p ∷ es) all) (is : tree_at s (record { 0 = p }) ≡ shape s w) where
   other : occurs n (shape s w) ≡ false → occurs_any n (trees (visit_trees s es)) ≡ all
   other e = sym (ap (λ b. b || occurs_any n (trees (visit_trees s es))) (ap (occurs n) is ∙ e)) ∙ k.rest
+
+  passed_over : occurs n (shape s w) ≡ false → Clears s n (Unit {0}) es
+  passed_over e = clears-weaker s n (Unit {0} × (occurs n (tree_at s (record { 0 = p })) ≡ false)) (Unit {0}) es (λ u. (u, ap (occurs n) is ∙ e)) k.clears
 
   pub walk_found : w ≡ W.Var n → all ≡ true
   walk_found e =
@@ -296,6 +345,7 @@ module _ (s : State) (n met : ℕ) (es : List Step) (all : Bool) (p : ℕ) (w : 
       record {
         below = k.below.1;
         honest = honest-met s met (Unit {0} × IsGround (tree_at s (record { 0 = p }))) (Unit {0}) es k.honest;
+        clears = passed_over (ap (λ x. occurs n (shape s x)) e ∙ absent);
         rest = other (ap (λ x. occurs n (shape s x)) e ∙ absent);
       }
 
@@ -303,6 +353,7 @@ module _ (s : State) (n met : ℕ) (es : List Step) (all : Bool) (p : ℕ) (w : 
   ground_step g = record {
     below = k.below.1;
     honest = honest-weaker s met (Unit {0} × IsGround (tree_at s (record { 0 = p }))) (Unit {0}) es (λ u. (u, subst IsGround (sym is) g)) k.honest;
+    clears = passed_over (g n);
     rest = other (g n);
   }
 
@@ -318,6 +369,16 @@ module _ (s : State) (n met : ℕ) (es : List Step) (all : Bool) (p : ℕ) (w : 
   pub walk_noted : (j first : ℕ) (f : NameId) → w ≡ W.Comp j f first → first + j ≤ length s.cells → GroundBlock s first j → Walking s n met es all
   walk_noted j first f e h g = ground_step (subst (λ x. IsGround (shape s x)) (sym e) (comp-ground s j first f h g))
 
+  pub walk_passed : (j first : ℕ) (f : NameId) → w ≡ W.Comp j f first → first + j ≤ length s.cells → ClearBlock s n first j → Walking s n (met + 1) es all
+  walk_passed j first f e h g =
+      let clear : occurs n (shape s w) ≡ false = ap (λ x. occurs n (shape s x)) e ∙ comp-clear s n j first f h g in
+      record {
+        below = k.below.1;
+        honest = honest-met s met (Unit {0} × IsGround (tree_at s (record { 0 = p }))) (Unit {0}) es k.honest;
+        clears = passed_over clear;
+        rest = other clear;
+      }
+
   pub walk_comp : (j first : ℕ) (f : NameId) (new : List Step) → w ≡ W.Comp j f first → first + j ≤ length s.cells → new ≡ visits first j ++ (Done first j met ∷ es)
       → Walking s n met new all × (step_weight s new < step_weight s (Visit p ∷ es))
   walk_comp j first f new e h made =
@@ -329,6 +390,8 @@ module _ (s : State) (n met : ℕ) (es : List Step) (all : Bool) (p : ℕ) (w : 
           below = steps-in-visits (length s.cells) first j (Done first j met ∷ es) h (h, k.below.1);
           honest = honest-visits s met (Unit {0}) first j (Done first j met ∷ es)
               (omega arith, λ x q. q.1, honest-weaker s met (Unit {0} × IsGround (tree_at s (record { 0 = p }))) (Unit {0} × GroundBlock s first j) es up k.honest);
+          clears = clears-visits s n (Unit {0}) first j (Done first j met ∷ es)
+              (λ q. q.1, clears-weaker s n (Unit {0} × (occurs n (tree_at s (record { 0 = p })) ≡ false)) (Unit {0} × ClearBlock s n first j) es (λ q. (tt, ap (occurs n) tree_is ∙ comp-clear s n j first f h q.1)) k.clears);
           rest = ap (λ ts. occurs_any n (trees ts)) trees_are ∙ (occurs_any-append n args (visit_trees s es)
               ∙ (sym (ap (λ t. occurs n t || occurs_any n (trees (visit_trees s es))) tree_is) ∙ k.rest));
         }),
@@ -346,8 +409,8 @@ walk_entered s n met all p w old new k is j first f e h (inl noted) = (
 walk_entered s n met all p w old new k is j first f e h (inr made) = walk_comp s n met (reverse old) all p w k is j first f (reverse new) e h made
 
 pub walk_done : (s : State) (n met : ℕ) (es : List Step) (all : Bool) (first j was : ℕ) → Walking s n met (Done first j was ∷ es) all
-    → Walking s n met es all × (first + j ≤ length s.cells) × (was ≡ met → GroundBlock s first j)
-walk_done s n met es all first j was k = (record { below = k.below.1; honest = k.honest.2; rest = k.rest }, k.below.0, λ e. k.honest.1 e tt)
+    → Walking s n met es all × (first + j ≤ length s.cells) × (was ≡ met → GroundBlock s first j) × ClearBlock s n first j
+walk_done s n met es all first j was k = (record { below = k.below.1; honest = k.honest.2; clears = k.clears.1; rest = k.rest }, k.below.0, λ e. k.honest.1 e tt, k.clears.0 tt)
 
 pub reverse-step : (xs : List Step) (x : Step) → reverse (xs ++ x ∷ []) ≡ x ∷ reverse xs
 reverse-step xs x = reverse-append xs (x ∷ [])

@@ -1,10 +1,10 @@
--- Steps of `solve_words` and `head`.
-use Rattle.std.proofs.Common.{◌≡◌, ◌≢◌, ℕ, zero, suc, ◌+◌, ◌<◌, ◌≤◌, List, [], ◌∷◌, ◌++◌, take, drop, length, get_or, refl, ap, ◌∙◌, sym, subst, Bool, true, false, not, arith, map, reverse, Option, Some, None, Result, Ok, Err, IsTrue, ◌⊎◌, inl, inr}
+-- Steps of `solve_words` and of matching a head.
+use Rattle.std.proofs.Common.{◌≡◌, ◌≢◌, ℕ, zero, suc, ◌+◌, ◌<◌, ◌≤◌, List, [], ◌∷◌, ◌++◌, take, drop, length, get_or, refl, ap, ◌∙◌, sym, subst, Bool, true, false, not, arith, map, reverse, Option, Some, None, Result, Ok, Err, IsTrue, ℤ, ◌⊎◌, inl, inr}
 use Rattle.std.specs.Prelude.{IfOk, MatchBool}
 use Rattle.std.proofs.lemmas.List.{append-nil, append_assoc, drop_more, length-map, length-take-le, length-drop, get_or-map, map-append}
 use Rattle.std.proofs.lemmas.Bool.{eqb-true}
 use Rattle.pl_atoms.specs.declared.names.NameId.{NameId}
-use Rattle.pl_terms.specs.Trees.{Tree, Trees, var, comp, cons, count}
+use Rattle.pl_terms.specs.Trees.{Tree, Trees, var, int, atom, comp, cons, count}
 use Rattle.run_model.specs.Substitution.{raise, raise_all, size, sizes, occurs}
 use Rattle.pl_unify.specs.Prefix.{trees}
 use Rattle.pl_unify.proofs.PrefixLaws.{trees-raise}
@@ -13,19 +13,18 @@ use Rattle.pl_unify.specs.declared.word.Word.TheVariants.{Var, Int, Name, Comp}
 use Rattle.pl_unify.specs.declared.code.CodeWord.{CodeWord}
 use Rattle.pl_unify.specs.declared.code.CodeWord.TheVariants as K
 use Rattle.run_model.specs.Substitution.{apply, apply_all}
-use Rattle.pl_unify.specs.Words.{word_tree, IsFree, WordIn, no_word}
-use Rattle.pl_unify.specs.State.{State, IsStore, base, bound, tree_of_word, tree_of_var, tree_at, Extends, Grows, shape, places}
+use Rattle.pl_unify.specs.Words.{word_tree, IsFree, WordIn}
+use Rattle.pl_unify.specs.State.{State, IsStore, base, bound, tree_of_word, tree_of_var, tree_at, Extends, Grows, Binds, shape, places}
 use Rattle.pl_unify.proofs.StoreLaws.{Extends-trans, Extends-refl}
-use Rattle.run_model.specs.Unifier.{Solved, pairs, IsClash}
+use Rattle.run_model.specs.Unifier.{Solved, pairs, IsClash, IsOther}
 use Rattle.run_model.specs.Unifier.Solved.{solved, same, higher_left, higher_right, left, right, left_inside, right_inside, parts, clash}
-use Rattle.run_model.specs.Unifier.IsClash.{names, counts, int_comp, atom_comp}
+use Rattle.run_model.specs.Unifier.IsClash.{names, counts, int_atom, atom_int, int_comp, comp_int, atom_comp, comp_atom}
 use Rattle.pl_unify.specs.Steps.{OnlyBinds, pair_span, equations}
-use Rattle.pl_unify.specs.Load.{WordsIn}
 use Rattle.pl_unify.specs.Code.{plain, no_code, code_base, code_tree, code_tree_in, IsCode, CodeIn}
 use Rattle.pl_unify.specs.declared.store.head.Met.{Met}
 use Rattle.pl_unify.specs.declared.store.head.Met.TheVariants as M
 use Rattle.pl_unify.specs.Spans.{IsMet}
-use Rattle.pl_unify.specs.Match.{SolvedBy, Matched, Matching, Born, applied, after, PairsIn, code_equations, code_equation, code_weight, head_equations}
+use Rattle.pl_unify.specs.Match.{SolvedBy, Matched, Matching, Born, applied, after, PairsIn, code_equations, code_equation, code_weight}
 use Rattle.run_model.proofs.Replaced.{apply-comp}
 use Rattle.pl_unify.proofs.Grown.{length-bases_nil}
 use Rattle.pl_unify.proofs.Shapes.{tree_of_word-shape, apply_all-trees, count-trees, count-args, length-places}
@@ -34,7 +33,7 @@ use Rattle.run_model.proofs.MguProofs.{size_pos}
 use Rattle.pl_unify.proofs.Walk.{tree_at-places}
 use Rattle.pl_unify.proofs.Low.{absent-new, free-new}
 use Rattle.pl_unify.proofs.Linked.{apply-free}
-use Rattle.pl_unify.proofs.Moves.{solved_by, word-moves, place-moves, tree-moves}
+use Rattle.pl_unify.proofs.Moves.{solved_by, place-moves, tree-moves}
 use Rattle.pl_unify.proofs.Chain.{then, applied-nil, after-none}
 use Rattle.pl_unify.proofs.Building.{code_tree-at, same_span}
 
@@ -148,20 +147,47 @@ pub IfOk-one : {E : Type 0} (r : Result Bool E) (P R : Bool → Type 0) → ((y 
 IfOk-one (Ok x) P R f h = f x h
 IfOk-one (Err e) P R f h = h
 
--- a variable that was not there takes the word
-pub first-solved : (s mid s' : State) (w end : Word) (n : ℕ) → IsStore mid → Grows s mid → mid.next ≡ n → WordIn (length s.cells) s.next w → Found mid w end → Born mid s' end
-    → tree_of_word mid w ≡ tree_of_word s w → SolvedBy s s' ((tree_of_word s w, var n) ∷ [])
-first-solved s mid s' w end n st grows at within found born keeps =
+-- a variable that was not there takes the word of a place
+pub first-solved : (s mid s' : State) (place n : ℕ) (end : Word) → IsStore mid → Grows s mid → mid.next ≡ n → place < length s.cells
+    → tree_at mid (record { 0 = place }) ≡ shape mid end → WordIn (length mid.cells) mid.next end → ((m : ℕ) → end ≡ Var m → IsFree m mid.links) → Born mid s' end
+    → SolvedBy s s' ((tree_at s (record { 0 = place }), var n) ∷ [])
+first-solved s mid s' place n end st grows at h here within free born =
     let t : Tree ℕ = tree_of_word mid end in
-    let is : t ≡ tree_of_word s w = found.same ∙ keeps in
-    let absent : occurs n t ≡ false = absent-new mid end n st (omega arith) found.within in
-    let low : Lower n end = λ m e. let h : m < mid.next = subst (WordIn (length mid.cells) mid.next) e found.within in omega arith in
-    let shape_is : t ≡ shape mid end = tree_of_word-shape mid end found.free in
+    let shape_is : t ≡ shape mid end = tree_of_word-shape mid end free in
+    let is : t ≡ tree_at s (record { 0 = place }) = shape_is ∙ (sym here ∙ grows.places (record { 0 = place }) h) in
+    let absent : occurs n t ≡ false = absent-new mid end n st (omega arith) within in
+    let low : Lower n end = λ m e. let l : m < mid.next = subst (WordIn (length mid.cells) mid.next) e within in omega arith in
     let one : Solved ((t, var n) ∷ []) (Some ((n, t) ∷ [])) =
     subst (λ x. Solved ((x, var n) ∷ []) (Some ((n, x) ∷ []))) (sym shape_is) (shape_right mid n end low (subst (λ x. occurs n x ≡ false) shape_is absent)) in
-    solved_by s s' ((tree_of_word s w, var n) ∷ []) ((n, t) ∷ []) (Extends-trans s mid s' grows.extends born.extends)
+    solved_by s s' ((tree_at s (record { 0 = place }), var n) ∷ []) ((n, t) ∷ []) (Extends-trans s mid s' grows.extends born.extends)
     (subst (λ x. Solved ((x, var n) ∷ []) (Some ((n, t) ∷ []))) is one)
     (born.bound ∙ (ap (λ k. bound mid ++ (k, t) ∷ []) at ∙ ap (λ bs. bs ++ (n, t) ∷ []) grows.bound))
+
+-- an unbound variable is bound to a constant
+pub constant-bound : (s s' : State) (t constant : Tree ℕ) (n : ℕ) → t ≡ var n → IsOther constant → occurs n constant ≡ false → Binds s s' n constant → SolvedBy s s' ((t, constant) ∷ [])
+constant-bound s s' t constant n is other absent binds =
+    solved_by s s' ((t, constant) ∷ []) ((n, constant) ∷ []) binds.extends
+    (subst (λ x. Solved ((x, constant) ∷ []) (Some ((n, constant) ∷ []))) (sym is) (left other absent solved)) binds.bound
+
+-- words that are no variable and not of a constant's kind
+pub not_int : (s : State) (w : Word) (z : ℤ) → ((n : ℕ) → w ≡ Var n → ⊥) → ((y : ℤ) → w ≡ Int y → ⊥) → IsClash (shape s w) (int z)
+not_int s (Var n) z v i = absurd (v n refl)
+not_int s (Int y) z v i = absurd (i y refl)
+not_int s (Name a) z v i = atom_int
+not_int s (Comp k f first) z v i = comp_int
+
+pub not_name : (s : State) (w : Word) (a : ℕ) → ((n : ℕ) → w ≡ Var n → ⊥) → ((b : NameId) → w ≡ Name b → ⊥) → IsClash (shape s w) (atom a)
+not_name s (Var n) a v i = absurd (v n refl)
+not_name s (Int y) a v i = int_atom
+not_name s (Name b) a v i = absurd (i b refl)
+not_name s (Comp k f first) a v i = comp_atom
+
+-- the two sides are one tree, or clash
+pub tree-same : (s : State) (t u : Tree ℕ) → t ≡ u → SolvedBy s s ((t, u) ∷ [])
+tree-same s t u e = solved_by s s ((t, u) ∷ []) [] (Extends-refl s) (subst (λ x. Solved ((t, x) ∷ []) (Some [])) e (same solved)) (sym (append-nil (bound s)))
+
+pub tree-clash : (t t' u : Tree ℕ) → t ≡ t' → IsClash t' u → Solved ((t, u) ∷ []) None
+tree-clash t t' u e c = subst (λ x. Solved ((x, u) ∷ []) None) (sym e) (clash c)
 
 -- the tree of a place of code, by its word
 pub code_word : (s : State) (b : ℕ) (ws : List CodeWord) (vars p : ℕ) (w : CodeWord) → IsCode ws vars → p < length ws → w ≡ get_or ws p no_code
@@ -171,28 +197,25 @@ code_word s b ws vars p w code h e = ap (λ t. apply (bound s) (raise b t)) (cod
 pub code_var : (s : State) (b : ℕ) (ws : List CodeWord) (vars p n : ℕ) → IsCode ws vars → p < length ws → K.Var n ≡ get_or ws p no_code → code_tree_in s b ws p ≡ tree_of_var s (n + b)
 code_var s b ws vars p n code h e = code_word s b ws vars p (K.Var n) code h e
 
-pub code_grows : (s s' : State) (b : ℕ) (ws : List CodeWord) (p : ℕ) → Grows s s' → code_tree_in s' b ws p ≡ code_tree_in s b ws p
-code_grows s s' b ws p g = ap (λ bs. apply bs (raise b (code_tree ws p))) g.bound
+answer-grown : (s mid s' : State) (es : List (Tree ℕ × Tree ℕ)) (ok : Bool) → Grows s mid → Answer mid s' es ok → Answer s s' es ok
+answer-grown s mid s' es true g d = solved_by s s' es d.unifier (Extends-trans s mid s' g.extends d.extends) d.solved (d.bound ∙ ap (λ bs. bs ++ d.unifier) g.bound)
+answer-grown s mid s' es false g d = d
 
-pub word_grows : (s s' : State) (w : Word) → Grows s s' → WordIn (length s.cells) s.next w → tree_of_word s' w ≡ tree_of_word s w
-word_grows s s' w g h = word-moves s s' [] w g.extends (g.bound ∙ sym (append-nil (bound s))) h
-
--- an answer of what was built is one of the code
-pub built-answer : (s mid s' : State) (w built : Word) (b : ℕ) (ws : List CodeWord) (p : ℕ) (ok : Bool) → Grows s mid → WordIn (length s.cells) s.next w
-    → tree_of_word mid built ≡ code_tree_in s b ws p → Answer mid s' (Sides mid w built) ok → Answer s s' (code_equation s b ws w p) ok
-built-answer s mid s' w built b ws p ok g h e ans = go ok ans
-  where
-    sides : Sides mid w built ≡ code_equation s b ws w p
-    sides = ap (λ t. (t, tree_of_word mid built) ∷ []) (word_grows s mid w g h) ∙ ap (λ t. (tree_of_word s w, t) ∷ []) e
-
-    go : (y : Bool) → Answer mid s' (Sides mid w built) y → Answer s s' (code_equation s b ws w p) y
-    go true d = solved_by s s' (code_equation s b ws w p) d.unifier (Extends-trans s mid s' g.extends d.extends) (subst (λ es. Solved es (Some d.unifier)) sides d.solved)
-        (d.bound ∙ ap (λ bs. bs ++ d.unifier) g.bound)
-    go false d = subst (λ es. Solved es None) sides d
+-- an unbound variable is bound to what was built of the code, which is no variable
+pub built-answer : (s mid s' : State) (n : ℕ) (built : Word) (b : ℕ) (ws : List CodeWord) (p : ℕ) (ok : Bool) → Grows s mid → n < s.next → IsFree n s.links
+    → WordIn (length mid.cells) mid.next built → ((m : ℕ) → built ≡ Var m → ⊥) → tree_of_word mid built ≡ code_tree_in s b ws p → OnlyBinds mid s'
+    → (IsTrue ok → bound s' ≡ bound mid ++ (n, tree_of_word mid built) ∷ []) → occurs n (tree_of_word mid built) ≡ not ok → Answer s s' (code_equation s b ws (var n) p) ok
+built-answer s mid s' n built b ws p ok g low unbound within no_var e only made absent =
+    let free : (k : ℕ) → Var n ≡ Var k → IsFree k mid.links = λ k q. let same_number : n ≡ k = cc in subst (λ m. IsFree m mid.links) same_number (subst (IsFree n) (sym g.links) unbound) in
+    let left_found : Found mid (Var n) (Var n) = record { same = refl; within = omega (arith, g.extends.next); free = free } in
+    let right_found : Found mid built built = record { same = refl; within = within; free = λ k q. absurd (no_var k q) } in
+    let sides : Sides mid (Var n) built ≡ code_equation s b ws (var n) p = ap (λ t. (t, tree_of_word mid built) ∷ []) (tree_of_word-shape mid (Var n) free) ∙ ap (λ t. (var n, t) ∷ []) e in
+    answer-grown s mid s' (code_equation s b ws (var n) p) ok g
+    (subst (λ es. Answer mid s' es ok) sides (sides-left mid s' (Var n) built (Var n) built n ok left_found right_found refl (λ m q. absurd (no_var m q)) only made absent))
 
 -- an equation that is solved whole leaves nothing
-matched_solved : (s s' : State) (b : ℕ) (ws : List CodeWord) (w : Word) (p : ℕ) → SolvedBy s s' (code_equation s b ws w p) → Matched s s' b ws w p []
-matched_solved s s' b ws w p d = record {
+matched_solved : (s s' : State) (b : ℕ) (ws : List CodeWord) (t : Tree ℕ) (p : ℕ) → SolvedBy s s' (code_equation s b ws t p) → Matched s s' b ws t p []
+matched_solved s s' b ws t p d = record {
   extends = d.extends;
   unifier = d.unifier;
   bound = d.bound;
@@ -201,9 +224,9 @@ matched_solved s s' b ws w p d = record {
   reduces = λ es r h. then d.solved es r h;
 }
 
-pub met_answer : (s s' : State) (b : ℕ) (ws : List CodeWord) (w : Word) (p : ℕ) (yes : Bool) (m : Met) → MatchBool yes (m ≡ M.Done) (m ≡ M.Clash) → Answer s s' (code_equation s b ws w p) yes → IsMet s s' b ws w p m
-met_answer s s' b ws w p true m e d = subst (IsMet s s' b ws w p) (sym e) (matched_solved s s' b ws w p d)
-met_answer s s' b ws w p false m e d = subst (IsMet s s' b ws w p) (sym e) d
+pub met_answer : (s s' : State) (b : ℕ) (ws : List CodeWord) (t : Tree ℕ) (p : ℕ) (yes : Bool) (m : Met) → MatchBool yes (m ≡ M.Done) (m ≡ M.Clash) → Answer s s' (code_equation s b ws t p) yes → IsMet s s' b ws t p m
+met_answer s s' b ws t p true m e d = subst (IsMet s s' b ws t p) (sym e) (matched_solved s s' b ws t p d)
+met_answer s s' b ws t p false m e d = subst (IsMet s s' b ws t p) (sym e) d
 
 -- the trees of the code's places in a state
 abbrev pub code_places : State → ℕ → List CodeWord → List (Tree ℕ)
@@ -262,39 +285,38 @@ weight-span ws first second (suc k) h =
     omega (arith, weight-span ws (first + 1) (second + 1) k (omega arith), ap (λ xs. sizes (trees (take (suc k) xs))) (drop_more (code_base ws) second (var 0) low))
 
 -- two compounds of one name and arity: their arguments are still to be solved
-pub matched_parts : (s : State) (b : ℕ) (ws : List CodeWord) (vars : ℕ) (w : Word) (p : ℕ) (k : ℕ) (f : NameId) (place first from : ℕ)
-    → IsCode ws vars → p < length ws → K.Comp k f first from ≡ get_or ws p no_code → Found s w (Comp k f place) → Matched s s b ws w p (pair_span place first k)
-matched_parts s b ws vars w p k f place first from code h e found =
+pub matched_parts : (s : State) (b : ℕ) (ws : List CodeWord) (vars : ℕ) (t : Tree ℕ) (p : ℕ) (k : ℕ) (f : NameId) (place first from : ℕ)
+    → IsCode ws vars → p < length ws → K.Comp k f first from ≡ get_or ws p no_code → t ≡ shape s (Comp k f place) → WordIn (length s.cells) s.next (Comp k f place) → Matched s s b ws t p (pair_span place first k)
+matched_parts s b ws vars t p k f place first from code h e left_is there =
     let within : CodeIn ws vars p (K.Comp k f first from) = subst (CodeIn ws vars p) (sym e) (code.words_in p h) in
     let low : first + k ≤ length ws = omega (arith, within.1) in
     let ts : Trees ℕ = trees (take k (drop place (places s))) in
     let us : Trees ℕ = trees (take k (drop first (code_places s b ws))) in
-    let left_is : tree_of_word s w ≡ comp f.0 ts = found-shape s w (Comp k f place) found in
     let right_is : code_tree_in s b ws p ≡ comp f.0 us = code_word s b ws vars p (K.Comp k f first from) code h e ∙ code_comp s b ws k f first from low in
     let count_us : count us ≡ k = count-trees (take k (drop first (code_places s b ws))) ∙ length-take-le k (drop first (code_places s b ws)) (omega (arith, length-drop first (code_places s b ws), length-code_places s b ws)) in
-    let counts_are : count ts ≡ count us = count-args s k place found.within.0 ∙ sym count_us in
+    let counts_are : count ts ≡ count us = count-args s k place there.0 ∙ sym count_us in
     record {
       extends = Extends-refl s;
       unifier = [];
       bound = sym (append-nil (bound s));
-      below = pairs-in (length s.cells) (length ws) place first k found.within.0 low;
+      below = pairs-in (length s.cells) (length ws) place first k there.0 low;
       smaller = omega (arith, weight-span ws place first k low, ap size (code_tree-at ws vars p code h ∙ ap (λ x. word_tree (code_base ws) (plain x)) (sym e)));
       reduces = λ es r y.
-          let z : Solved (pairs ts us es) r = subst (λ x. Solved x r) (ap (λ q. code_equations s b ws (pair_span place first k) ++ q) (applied-nil es) ∙ code_pairs s b ws place first k es found.within.0 low) y in
-          subst (Solved ((tree_of_word s w, code_tree_in s b ws p) ∷ es)) (sym (after-none r))
-          (subst (λ t. Solved ((t, code_tree_in s b ws p) ∷ es) r) (sym left_is) (subst (λ t. Solved ((comp f.0 ts, t) ∷ es) r) (sym right_is) (parts counts_are z)));
+          let z : Solved (pairs ts us es) r = subst (λ x. Solved x r) (ap (λ q. code_equations s b ws (pair_span place first k) ++ q) (applied-nil es) ∙ code_pairs s b ws place first k es there.0 low) y in
+          subst (Solved ((t, code_tree_in s b ws p) ∷ es)) (sym (after-none r))
+          (subst (λ x. Solved ((x, code_tree_in s b ws p) ∷ es) r) (sym left_is) (subst (λ x. Solved ((comp f.0 ts, x) ∷ es) r) (sym right_is) (parts counts_are z)));
     }
 
 -- words that are no variable and have not the compound's name and arity
-pub matched_clash : (s : State) (b : ℕ) (ws : List CodeWord) (vars : ℕ) (w end : Word) (p k : ℕ) (f : NameId) (first from : ℕ) → IsCode ws vars → p < length ws → K.Comp k f first from ≡ get_or ws p no_code
-    → Found s w end → ((n : ℕ) → end ≡ Var n → ⊥) → ((j : ℕ) (g : NameId) (place : ℕ) → end ≡ Comp j g place → (f ≢ g) ⊎ (k ≢ j)) → Solved (code_equation s b ws w p) None
-matched_clash s b ws vars w end p k f first from code h e found no_var other =
+pub matched_clash : (s : State) (b : ℕ) (ws : List CodeWord) (vars : ℕ) (t : Tree ℕ) (end : Word) (p k : ℕ) (f : NameId) (first from : ℕ) → IsCode ws vars → p < length ws → K.Comp k f first from ≡ get_or ws p no_code
+    → t ≡ shape s end → WordIn (length s.cells) s.next end → ((n : ℕ) → end ≡ Var n → ⊥) → ((j : ℕ) (g : NameId) (place : ℕ) → end ≡ Comp j g place → (f ≢ g) ⊎ (k ≢ j)) → Solved (code_equation s b ws t p) None
+matched_clash s b ws vars t end p k f first from code h e left_is there no_var other =
     let within : CodeIn ws vars p (K.Comp k f first from) = subst (CodeIn ws vars p) (sym e) (code.words_in p h) in
     let low : first + k ≤ length ws = omega (arith, within.1) in
     let us : Trees ℕ = trees (take k (drop first (code_places s b ws))) in
     let right_is : code_tree_in s b ws p ≡ comp f.0 us = code_word s b ws vars p (K.Comp k f first from) code h e ∙ code_comp s b ws k f first from low in
     let count_us : count us ≡ k = count-trees (take k (drop first (code_places s b ws))) ∙ length-take-le k (drop first (code_places s b ws)) (omega (arith, length-drop first (code_places s b ws), length-code_places s b ws)) in
-    subst (λ t. Solved ((t, code_tree_in s b ws p) ∷ []) None) (sym (found-shape s w end found)) (subst (λ t. Solved ((shape s end, t) ∷ []) None) (sym right_is) (clash (go end us count_us found.within no_var other)))
+    subst (λ x. Solved ((x, code_tree_in s b ws p) ∷ []) None) (sym left_is) (subst (λ x. Solved ((shape s end, x) ∷ []) None) (sym right_is) (clash (go end us count_us there no_var other)))
   where
     go : (x : Word) (us : Trees ℕ) → count us ≡ k → WordIn (length s.cells) s.next x → ((n : ℕ) → x ≡ Var n → ⊥) → ((j : ℕ) (g : NameId) (place : ℕ) → x ≡ Comp j g place → (f ≢ g) ⊎ (k ≢ j)) → IsClash (shape s x) (comp f.0 us)
     go (Var n) us c v nv o = absurd (nv n refl)
@@ -327,38 +349,19 @@ weight-append : (ws : List CodeWord) (xs ys : List (ℕ × ℕ)) → code_weight
 weight-append ws [] ys = omega arith
 weight-append ws (x ∷ xs) ys = omega (arith, weight-append ws xs ys)
 
--- what is left of an equation alone
-pub matched_left : (s mid s' : State) (b : ℕ) (ws : List CodeWord) (w : Word) (p : ℕ) (more : List (ℕ × ℕ)) (yes : Bool) → Matched s mid b ws w p more
-    → Answer mid s' (code_equations mid b ws more) yes → Answer s s' (code_equation s b ws w p) yes
-matched_left s mid s' b ws w p more ok m ans = go ok ans
-  where
-    alone : (r : Option (List (ℕ × Tree ℕ))) → Solved (code_equations mid b ws more) r → Solved (code_equation s b ws w p) (after m.unifier r)
-    alone r h = m.reduces [] r (subst (λ es. Solved es r) (sym (append-nil (code_equations mid b ws more))) h)
-
-    go : (y : Bool) → Answer mid s' (code_equations mid b ws more) y → Answer s s' (code_equation s b ws w p) y
-    go true d = solved_by s s' (code_equation s b ws w p) (m.unifier ++ d.unifier) (Extends-trans s mid s' m.extends d.extends) (alone (Some d.unifier) d.solved)
-        (d.bound ∙ (ap (λ bs. bs ++ d.unifier) m.bound ∙ append_assoc (bound s) m.unifier d.unifier))
-    go false d = alone None d
-
--- nothing is left of an equation
-pub matched_whole : (s s' : State) (b : ℕ) (ws : List CodeWord) (w : Word) (p : ℕ) → Matched s s' b ws w p [] → SolvedBy s s' (code_equation s b ws w p)
-matched_whole s s' b ws w p m =
-    solved_by s s' (code_equation s b ws w p) m.unifier m.extends (subst (λ u. Solved (code_equation s b ws w p) (Some u)) (append-nil m.unifier) (m.reduces [] (Some []) solved)) m.bound
-
 -- a list of equations, of which the first is looked at
-module _ (s0 s s' : State) (b : ℕ) (ws : List CodeWord) (all : List (Tree ℕ × Tree ℕ)) (now rest : List (ℕ × ℕ)) (place q : ℕ) (w : Word)
-    (k : Matching s0 s b ws all (code_equations s b ws now)) (split : now ≡ (place, q) ∷ rest) (below : PairsIn (length s.cells) (length ws) now)
-    (tree_is : tree_of_word s w ≡ tree_at s (record { 0 = place })) where
+module _ (s0 s s' : State) (b : ℕ) (ws : List CodeWord) (all : List (Tree ℕ × Tree ℕ)) (now rest : List (ℕ × ℕ)) (place q : ℕ)
+    (k : Matching s0 s b ws all (code_equations s b ws now)) (split : now ≡ (place, q) ∷ rest) (below : PairsIn (length s.cells) (length ws) now) where
   turn-below : (place < length s.cells) × (q < length ws) × PairsIn (length s.cells) (length ws) rest
   turn-below = subst (PairsIn (length s.cells) (length ws)) split below
 
-  turn-start : (r : Option (List (ℕ × Tree ℕ))) → Solved ((tree_of_word s w, code_tree_in s b ws q) ∷ code_equations s b ws rest) r → Solved all (after k.unifier r)
-  turn-start r h = k.reduces r (subst (λ es. Solved es r) (ap (λ t. (t, code_tree_in s b ws q) ∷ code_equations s b ws rest) tree_is ∙ sym (ap (code_equations s b ws) split)) h)
+  turn-start : (r : Option (List (ℕ × Tree ℕ))) → Solved ((tree_at s (record { 0 = place }), code_tree_in s b ws q) ∷ code_equations s b ws rest) r → Solved all (after k.unifier r)
+  turn-start r h = k.reduces r (subst (λ es. Solved es r) (sym (ap (code_equations s b ws) split)) h)
 
-  pub turn-none : Solved (code_equation s b ws w q) None → Solved all None
+  pub turn-none : Solved (code_equation s b ws (tree_at s (record { 0 = place })) q) None → Solved all None
   turn-none h = turn-start None (then h (code_equations s b ws rest))
 
-  pub turn-matching : (more next : List (ℕ × ℕ)) → next ≡ more ++ rest → Matched s s' b ws w q more → Matching s0 s' b ws all (code_equations s' b ws next)
+  pub turn-matching : (more next : List (ℕ × ℕ)) → next ≡ more ++ rest → Matched s s' b ws (tree_at s (record { 0 = place })) q more → Matching s0 s' b ws all (code_equations s' b ws next)
   turn-matching more next e m = record {
     extends = Extends-trans s0 s s' k.extends m.extends;
     unifier = k.unifier ++ m.unifier;
@@ -370,67 +373,19 @@ module _ (s0 s s' : State) (b : ℕ) (ws : List CodeWord) (all : List (Tree ℕ 
         subst (Solved all) (after-after k.unifier m.unifier r) (turn-start (after m.unifier r) (m.reduces (code_equations s b ws rest) r (subst (λ es. Solved es r) list h)));
   }
 
-  pub turn-in : (more next : List (ℕ × ℕ)) → next ≡ more ++ rest → Matched s s' b ws w q more → PairsIn (length s'.cells) (length ws) next
+  pub turn-in : (more next : List (ℕ × ℕ)) → next ≡ more ++ rest → Matched s s' b ws (tree_at s (record { 0 = place })) q more → PairsIn (length s'.cells) (length ws) next
   turn-in more next e m =
       subst (PairsIn (length s'.cells) (length ws)) (sym e) (PairsIn-append (length s'.cells) (length ws) more rest m.below (PairsIn-more (length s.cells) (length s'.cells) (length ws) rest m.extends.more_cells turn-below.2))
 
-  pub turn-smaller : (more next : List (ℕ × ℕ)) → next ≡ more ++ rest → Matched s s' b ws w q more → code_weight ws next < code_weight ws now
+  pub turn-smaller : (more next : List (ℕ × ℕ)) → next ≡ more ++ rest → Matched s s' b ws (tree_at s (record { 0 = place })) q more → code_weight ws next < code_weight ws now
   turn-smaller more next e m = omega (arith, ap (code_weight ws) e, weight-append ws more rest, ap (code_weight ws) split, m.smaller)
 
 pub matching_done : (s0 s : State) (b : ℕ) (ws : List CodeWord) (all ahead : List (Tree ℕ × Tree ℕ)) → Matching s0 s b ws all ahead → ahead ≡ [] → SolvedBy s0 s all
 matching_done s0 s b ws all ahead k none =
     solved_by s0 s all k.unifier k.extends (subst (λ u. Solved all (Some u)) (append-nil k.unifier) (k.reduces (Some []) (subst (λ es. Solved es (Some [])) (sym none) solved))) k.bound
 
--- the arguments of a head, one after another
-heads-move : (s s' : State) (b : ℕ) (ws : List CodeWord) (u : List (ℕ × Tree ℕ)) (p : ℕ) (args : List Word) → Extends s s' → bound s' ≡ bound s ++ u → WordsIn (length s.cells) s.next args
-    → head_equations s' b ws p args ≡ applied u (head_equations s b ws p args)
-heads-move s s' b ws u p [] x e h = refl
-heads-move s s' b ws u p (w ∷ args) x e h =
-    ap (λ t. (t, code_tree_in s' b ws p) ∷ head_equations s' b ws (p + 1) args) (word-moves s s' u w x e h.0)
-    ∙ (ap (λ t. (apply u (tree_of_word s w), t) ∷ head_equations s' b ws (p + 1) args) (tree-moves s s' u (raise b (code_tree ws p)) e)
-    ∙ ap (λ r. (apply u (tree_of_word s w), apply u (code_tree_in s b ws p)) ∷ r) (heads-move s s' b ws u (p + 1) args x e h.1))
-
-pub head_start : (s : State) (b : ℕ) (ws : List CodeWord) (at at' : ℕ) (args args' : List Word) → at ≡ at' → args ≡ args' → Matching s s b ws (head_equations s b ws at args) (head_equations s b ws at' args')
-head_start s b ws at at' args args' e f = record {
-  extends = Extends-refl s;
-  unifier = [];
-  bound = sym (append-nil (bound s));
-  reduces = λ r h. subst (Solved (head_equations s b ws at args)) (sym (after-none r)) (subst (λ n. Solved (head_equations s b ws n args) r) (sym e) (subst (λ a. Solved (head_equations s b ws at' a) r) (sym f) h));
-}
-
-module _ (s0 s s' : State) (b : ℕ) (ws : List CodeWord) (all : List (Tree ℕ × Tree ℕ)) (at at' i : ℕ) (args rest rest' : List Word) (w : Word)
-    (k : Matching s0 s b ws all (head_equations s b ws at rest)) (split : rest ≡ w ∷ rest') (next : at + 1 ≡ at') (within : WordsIn (length s.cells) s.next rest') where
-  head-now : head_equations s b ws at rest ≡ (tree_of_word s w, code_tree_in s b ws at) ∷ head_equations s b ws at' rest'
-  head-now = ap (head_equations s b ws at) split ∙ ap (λ n. (tree_of_word s w, code_tree_in s b ws at) ∷ head_equations s b ws n rest') next
-
-  pub head-none : Solved (code_equation s b ws w at) None → Solved all None
-  head-none h = k.reduces None (subst (λ es. Solved es None) (sym head-now) (then h (head_equations s b ws at' rest')))
-
-  pub head-step : SolvedBy s s' (code_equation s b ws w at) → Matching s0 s' b ws all (head_equations s' b ws at' rest')
-  head-step d = record {
-    extends = Extends-trans s0 s s' k.extends d.extends;
-    unifier = k.unifier ++ d.unifier;
-    bound = d.bound ∙ (ap (λ bs. bs ++ d.unifier) k.bound ∙ append_assoc (bound s0) k.unifier d.unifier);
-    reduces = λ r h.
-        let one : Solved ((tree_of_word s w, code_tree_in s b ws at) ∷ head_equations s b ws at' rest') (after d.unifier r) =
-        then d.solved (head_equations s b ws at' rest') r (subst (λ es. Solved es r) (heads-move s s' b ws d.unifier at' rest' d.extends d.bound within) h) in
-        subst (Solved all) (after-after k.unifier d.unifier r) (k.reduces (after d.unifier r) (subst (λ es. Solved es (after d.unifier r)) (sym head-now) one));
-  }
-
--- what an answer says once it is known
-pub answer_true : (s s' : State) (es : List (Tree ℕ × Tree ℕ)) (ok : Bool) → ok ≡ true → Answer s s' es ok → SolvedBy s s' es
-answer_true s s' es ok e d = subst (Answer s s' es) e d
-
-pub answer_false : (s s' : State) (es : List (Tree ℕ × Tree ℕ)) (ok : Bool) → ok ≡ false → Answer s s' es ok → Solved es None
-answer_false s s' es ok e d = subst (Answer s s' es) e d
-
 pub first-tree : (s : State) (b : ℕ) (ws : List CodeWord) (p n : ℕ) → IsStore s → s.next ≤ n → code_tree_in s b ws p ≡ tree_of_var s n → var n ≡ code_tree_in s b ws p
 first-tree s b ws p n st up e = sym (e ∙ apply-free (base s) [] s.links n refl (free-new s n st up))
-
-pub words_get : (c n : ℕ) (ws : List Word) (p : ℕ) → p < length ws → WordsIn c n ws → WordIn c n (get_or ws p no_word)
-words_get c n [] p l h = absurd (omega arith)
-words_get c n (w ∷ ws) zero l h = h.0
-words_get c n (w ∷ ws) (suc p) l h = words_get c n ws p (omega arith) h.1
 
 -- a state may be written for an equal one
 pub answer-moved : (s0 s1 s2 s3 : State) (w : List (ℕ × ℕ)) (ok : Bool) → s1 ≡ s0 → s3 ≡ s2 → Answer s1 s2 (equations s1 w) ok → Answer s0 s3 (equations s0 w) ok

@@ -28,6 +28,13 @@ plain (K.Int z) = W.Int z
 plain (K.Name a) = W.Name a
 plain (K.Comp k f first from) = W.Comp k f first
 
+-- the word is a compound's
+abbrev pub IsCompound : CodeWord → Type 0
+IsCompound (K.Var n) = ⊥
+IsCompound (K.Int z) = ⊥
+IsCompound (K.Name a) = ⊥
+IsCompound (K.Comp k f first from) = Unit {0}
+
 -- the trees of the places
 abbrev pub code_base : List CodeWord → List (Tree ℕ)
 code_base ws = bases [] (map plain ws)

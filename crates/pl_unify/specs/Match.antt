@@ -52,24 +52,19 @@ abbrev pub code_weight : List CodeWord → List (ℕ × ℕ) → ℕ
 code_weight ws [] = 0
 code_weight ws (p ∷ ps) = size (code_tree ws p.1) + code_weight ws ps
 
--- an equation with a place of code was solved, up to the equations of these places
-pub record Matched (old new : State) (base : ℕ) (ws : List CodeWord) (w : Word) (p : ℕ) (left : List (ℕ × ℕ)) : Type 0 where
+-- the equation of a tree with a place of code was solved, up to the equations of these places
+pub record Matched (old new : State) (base : ℕ) (ws : List CodeWord) (t : Tree ℕ) (p : ℕ) (left : List (ℕ × ℕ)) : Type 0 where
   pub extends : Extends old new
   pub unifier : List (ℕ × Tree ℕ)
   pub bound : bound new ≡ bound old ++ unifier
   pub below : PairsIn (length new.cells) (length ws) left
   pub smaller : code_weight ws left < size (code_tree ws p)
   pub reduces : (es : List (Tree ℕ × Tree ℕ)) (r : Option (List (ℕ × Tree ℕ))) → Solved (code_equations new base ws left ++ applied unifier es) r
-      → Solved ((tree_of_word old w, code_tree_in old base ws p) ∷ es) (after unifier r)
+      → Solved ((t, code_tree_in old base ws p) ∷ es) (after unifier r)
 
--- the equation of a word with a place of code
-abbrev pub code_equation : State → ℕ → List CodeWord → Word → ℕ → List (Tree ℕ × Tree ℕ)
-code_equation s base ws w p = (tree_of_word s w, code_tree_in s base ws p) ∷ []
-
--- the equations of words with the code's places from one on
-abbrev pub head_equations : State → ℕ → List CodeWord → ℕ → List Word → List (Tree ℕ × Tree ℕ)
-head_equations s base ws p [] = []
-head_equations s base ws p (w ∷ args) = (tree_of_word s w, code_tree_in s base ws p) ∷ head_equations s base ws (p + 1) args
+-- the equation of a tree with a place of code
+abbrev pub code_equation : State → ℕ → List CodeWord → Tree ℕ → ℕ → List (Tree ℕ × Tree ℕ)
+code_equation s base ws t p = (t, code_tree_in s base ws p) ∷ []
 
 -- how far the unifier of equations has come, of which those of the list are left
 pub record Matching (old s : State) (base : ℕ) (ws : List CodeWord) (all left : List (Tree ℕ × Tree ℕ)) : Type 0 where

@@ -81,6 +81,20 @@ Honest s met P [] = Unit {0}
 Honest s met P (Visit p ∷ es) = Honest s met (P × IsGround (tree_at s (record { 0 = p }))) es
 Honest s met P (Done first k was ∷ es) = (was ≤ met) × (was ≡ met → P → GroundBlock s first k) × Honest s met P es
 
+-- the variable is not in the places of a block
+abbrev pub ClearBlock : State → ℕ → ℕ → ℕ → Type 0
+ClearBlock s n first k = (i : ℕ) → i < k → occurs n (tree_at s (record { 0 = first + i })) ≡ false
+
+-- the variable is not in a block, if it is not in what is still to be visited of it
+abbrev pub Clears : State → ℕ → Type 0 → List Step → Type 0
+Clears s n P [] = Unit {0}
+Clears s n P (Visit p ∷ es) = Clears s n (P × (occurs n (tree_at s (record { 0 = p })) ≡ false)) es
+Clears s n P (Done first k was ∷ es) = (P → ClearBlock s n first k) × Clears s n P es
+
+-- at the last place of a block that was passed, how many places it has: the variable is in none of them
+abbrev pub IsPassed : State → ℕ → List ℕ → Type 0
+IsPassed s n passed = (p q : ℕ) → q ≤ p → p < q + slice_index_or passed p 0 → occurs n (tree_at s (record { 0 = q })) ≡ false
+
 -- a block that is to be visited is ground, or its visits were put on
 abbrev pub Entered : State → ℕ → ℕ → ℕ → List Step → List Step → Type 0
 Entered s first k met old new = (GroundBlock s first k × (new ≡ old)) ⊎ (reverse new ≡ visits first k ++ (Done first k met ∷ reverse old))

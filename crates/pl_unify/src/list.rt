@@ -10,10 +10,9 @@ pub fn push<T: Drop>(list: &mut Vec<T>, value: T) -> Result<(), NoMemory>
     ensures ok { OnOk result (list.new.items ≡ list.old.items ++ value ∷ []) }
     ensures err { OnErr result (list.new.items ≡ list.old.items) }
 {
-    match list.push(value) {
-        Ok(()) => Ok(()),
-        Err(_) => Err(NoMemory),
-    }
+    make_room(list, 1)?;
+    put(list, value);
+    Ok(())
 }
 
 /// Makes room for `n` more values.
@@ -22,6 +21,10 @@ pub fn make_room<T>(list: &mut Vec<T>, n: usize) -> Result<(), NoMemory>
     ensures ok { OnOk result (vec_len list.new + n ≤ vec_capacity list.new) }
     ensures capacity { vec_capacity list.old ≤ vec_capacity list.new }
 {
+    // Tested here, since `reserve` is a call and there mostly is room.
+    if n <= list.capacity() - list.len() {
+        return Ok(());
+    }
     match list.reserve(n) {
         Ok(()) => Ok(()),
         Err(_) => Err(NoMemory),
@@ -35,9 +38,7 @@ pub fn put<T: Drop>(list: &mut Vec<T>, value: T)
     ensures len { vec_len list.new ≡ vec_len list.old + 1 }
     ensures capacity { vec_capacity list.old ≤ vec_capacity list.new }
 {
-    if list.push(value).is_err() {
-        unreachable!();
-    }
+    list.push_reserved(value);
 }
 
 /// Takes a list out, emptied, and leaves one without room.

@@ -170,3 +170,26 @@ fn shared_doublings_unify(rt: HostRuntime) -> Result<(), Fail> {
     assert_eq!(rt; len, 32767);
     Ok(())
 }
+
+// Whether another variable, and the variable itself, unify with a term that holds the variable, in which each part stands twice, so
+// many parts deep.
+fn sharing(alloc: Global, depth: usize) -> Result<(bool, bool), NoMemory> {
+    let mut store = Store::new(alloc);
+    let x = store.fresh()?;
+    let y = store.fresh()?;
+    let mut at = x;
+    for _ in 0..depth {
+        at = store.compound(G, &[at, at])?;
+    }
+    let other = store.unify(y, at)?;
+    let inside = store.unify(x, at)?;
+    Ok((other, inside))
+}
+
+#[test]
+fn shared_parts_are_walked_once(rt: HostRuntime) -> Result<(), Fail> {
+    let (other, inside) = sharing(rt.alloc(), 100)?;
+    assert!(rt; other);
+    assert!(rt; !inside);
+    Ok(())
+}

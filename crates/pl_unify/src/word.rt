@@ -1,5 +1,5 @@
 //! Places of a store, and what stands at them.
-ghost use Rattle.std.specs.Prelude.{◌≡◌, IsTrue, ◌↔◌};
+ghost use Rattle.std.specs.Prelude.{◌≡◌};
 
 use pl_atoms::NameId;
 
@@ -34,16 +34,6 @@ pub enum Word {
 }
 
 const _: () = prove!(size_of::<Word>() == 24);
-
-/// Whether a word is the variable of this number.
-pub fn is_variable(word: Word, n: usize) -> bool
-    ensures { IsTrue result ↔ (word ≡ Word.Var n) }
-{
-    match word {
-        Word::Var(m) => m == n,
-        _ => false,
-    }
-}
 
 /// The word of an integer.
 pub fn int_word(value: i64) -> Word

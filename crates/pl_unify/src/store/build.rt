@@ -1,11 +1,11 @@
 //! Building terms from code.
-ghost use Rattle.std.specs.Prelude.{◌≡◌, ℕ, ◌+◌, ◌-◌, ◌<◌, ◌≤◌, ◌^◌, ◌++◌, max, map, take, drop, length, slice_index_or, IfOk, OnOk, OnErr, vec_len, vec_capacity};
+ghost use Rattle.std.specs.Prelude.{◌≡◌, ◌≢◌, ℕ, ◌+◌, ◌-◌, ◌<◌, ◌≤◌, ◌^◌, ◌++◌, max, map, take, drop, length, slice_index_or, IfOk, OnOk, OnErr, vec_len, vec_capacity};
 ghost use Rattle.run_model.specs.Substitution.{raise};
 ghost use Rattle.pl_terms.specs.Trees.{var};
 ghost use Rattle.pl_terms.specs.Cells.{cells};
 ghost use Rattle.pl_unify.specs.Words.{WordIn};
 ghost use Rattle.pl_unify.specs.State.{Grows, tree_of_word, base as bases_of};
-ghost use Rattle.pl_unify.specs.Code.{IsCode, Closed, no_code, code_tree, code_tree_in, placed, RaisedBelow, own_words, From};
+ghost use Rattle.pl_unify.specs.Code.{IsCode, IsCompound, Closed, no_code, code_tree, code_tree_in, placed, RaisedBelow, own_words, From};
 
 use super::Store;
 use crate::code::{Code, CodeWord};
@@ -22,6 +22,24 @@ impl Store {
         ensures next { self.new.state.next ≤ max self.old.state.next (code.now.vars + base) }
         ensures within { IfOk result (λ word. WordIn (length self.new.state.cells) self.new.state.next word) }
         ensures tree { IfOk result (λ word. tree_of_word self.new.state word ≡ code_tree_in self.old.state base code.now.words p) }
+    {
+        self.build_word(code, p, base)
+    }
+
+    // As `build`; what it builds of a compound is no variable.
+    pub(super) fn build_word(
+        &mut self,
+        code: &Code,
+        p: usize,
+        base: usize,
+    ) -> Result<Word, NoMemory>
+        requires place { p < length code.now.words }
+        requires base { base ≤ self.old.state.next }
+        ensures grows { Grows self.old.state self.new.state }
+        ensures next { self.new.state.next ≤ max self.old.state.next (code.now.vars + base) }
+        ensures within { IfOk result (λ word. WordIn (length self.new.state.cells) self.new.state.next word) }
+        ensures tree { IfOk result (λ word. tree_of_word self.new.state word ≡ code_tree_in self.old.state base code.now.words p) }
+        ensures compound { IfOk result (λ word. IsCompound (slice_index_or code.now.words p no_code) → (n : ℕ) → word ≢ Word.Var n) }
     {
         match code.word(p) {
             CodeWord::Var(n) => {

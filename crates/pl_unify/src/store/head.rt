@@ -1,20 +1,20 @@
 //! Matching a clause's head against its code.
-ghost use Rattle.std.specs.Prelude.{◌≡◌, ℕ, ◌+◌, ◌<◌, ◌≤◌, ◌^◌, ◌∷◌, ◌++◌, [], max, length, reverse, None, MatchBool, IfOk, OnOk, OnErr};
+ghost use Rattle.std.specs.Prelude.{◌≡◌, ℕ, ◌+◌, ◌<◌, ◌≤◌, ◌^◌, ◌∷◌, ◌++◌, [], max, length, reverse, slice_index_or, None, MatchBool, IfOk, OnOk, OnErr};
 ghost use Rattle.run_model.specs.Unifier.{Solved};
-ghost use Rattle.pl_terms.specs.Trees.{var};
+ghost use Rattle.pl_terms.specs.Trees.{var, int, atom};
 ghost use Rattle.pl_unify.specs.Words.{IsFree, WordIn};
-ghost use Rattle.pl_unify.specs.State.{Extends, tree_of_word, tree_of_var};
-ghost use Rattle.pl_unify.specs.Load.{WordsIn};
-ghost use Rattle.pl_unify.specs.Code.{code_tree_in};
-ghost use Rattle.pl_unify.specs.Match.{SolvedBy, Born, PairsIn, code_equation, code_equations, head_equations};
+ghost use Rattle.pl_unify.specs.State.{Extends, Binds, tree_at, tree_of_var};
+ghost use Rattle.pl_unify.specs.Steps.{OnlyBinds};
+ghost use Rattle.pl_unify.specs.Code.{IsCode, IsCompound, no_code};
+ghost use Rattle.pl_unify.specs.Match.{SolvedBy, Born, PairsIn, code_equation, code_equations};
 ghost use Rattle.pl_unify.specs.Spans.{IsMet, pairs_of, all_pairs};
 ghost use Rattle.pl_unify.specs.declared.store.head.Met.TheVariants as M;
 
 use super::Store;
 use crate::code::{Code, CodeWord};
 use crate::list::{make_room, push, put};
-use crate::word::{Word, int_word};
-use pl_atoms::NoMemory;
+use crate::word::{Ref, Word};
+use pl_atoms::{NameId, NoMemory};
 
 // Equations of places of a store with places of code: the first places, and how many there are.
 #[derive(Clone, Copy)]
@@ -35,55 +35,6 @@ enum Met {
 }
 
 impl Store {
-    /// Solves the equations of words and the places of the code from `at` on, with the variables numbered from `base` on.
-    /// Where it is not `Ok(true)`, bindings, places and variables may have been added: the caller goes back to a mark.
-    pub fn head(
-        &mut self,
-        args: &Vec<Word>,
-        code: &Code,
-        at: usize,
-        base: usize,
-    ) -> Result<bool, NoMemory>
-        requires words { WordsIn (length self.old.state.cells) self.old.state.next args.now.items }
-        requires places { at + length args.now.items ≤ length code.now.words }
-        requires base { base ≤ self.old.state.next }
-        ensures extends { Extends self.old.state self.new.state }
-        ensures next { self.new.state.next ≤ max self.old.state.next (code.now.vars + base) }
-        ensures answer { IfOk result (λ yes. MatchBool yes (SolvedBy self.old.state self.new.state (head_equations self.old.state base code.now.words at args.now.items))
-            (Solved (head_equations self.old.state base code.now.words at args.now.items) None)) }
-    {
-        let _len = code.len();
-        'arguments: for k in 0..args.len() {
-            if !self.match_word(args[k], code, at + k, base)? {
-                return Ok(false);
-            }
-        }
-        Ok(true)
-    }
-
-    // Solves the equation of a word and a place of the code.
-    fn match_word(
-        &mut self,
-        word: Word,
-        code: &Code,
-        p: usize,
-        base: usize,
-    ) -> Result<bool, NoMemory>
-        requires word { WordIn (length self.old.state.cells) self.old.state.next word }
-        requires place { p < length code.now.words }
-        requires base { base ≤ self.old.state.next }
-        ensures extends { Extends self.old.state self.new.state }
-        ensures next { self.new.state.next ≤ max self.old.state.next (code.now.vars + base) }
-        ensures answer { IfOk result (λ yes. MatchBool yes (SolvedBy self.old.state self.new.state (code_equation self.old.state base code.now.words word p))
-            (Solved (code_equation self.old.state base code.now.words word p) None)) }
-    {
-        match self.match_one(word, code, p, base)? {
-            Met::Done => Ok(true),
-            Met::Clash => Ok(false),
-            Met::Parts(span) => self.match_span(span, code, base),
-        }
-    }
-
     // Solves the equations of a span.
     pub(super) fn match_span(
         &mut self,
@@ -130,8 +81,8 @@ impl Store {
                 now = next;
                 continue;
             }
-            let word = self.cell(now.place);
-            match self.match_one(word, code, now.code, base)? {
+            let _next = self.next_var();
+            match self.match_place(now.place, code, now.code, base)? {
                 Met::Done => now = rest_of(now),
                 Met::Clash => return Ok(false),
                 Met::Parts(parts) => {
@@ -142,109 +93,187 @@ impl Store {
         }
     }
 
-    // Solves the equation of a word and a place of the code, up to the equations of arguments.
-    fn match_one(&mut self, word: Word, code: &Code, p: usize, base: usize) -> Result<Met, NoMemory>
-        requires word { WordIn (length self.old.state.cells) self.old.state.next word }
-        requires place { p < length code.now.words }
+    // Solves the equation of a place of the store and one of the code, up to the equations of arguments. The functions that
+    // this calls take places and numbers, since a `Word` goes through memory.
+    fn match_place(
+        &mut self,
+        place: usize,
+        code: &Code,
+        p: usize,
+        base: usize,
+    ) -> Result<Met, NoMemory>
+        requires place { place < length self.old.state.cells }
+        requires code { p < length code.now.words }
         requires base { base ≤ self.old.state.next }
         ensures extends { Extends self.old.state self.new.state }
         ensures next { self.new.state.next ≤ max self.old.state.next (code.now.vars + base) }
-        ensures met { IfOk result (IsMet self.old.state self.new.state base code.now.words word p) }
+        ensures met { IfOk result (IsMet self.old.state self.new.state base code.now.words (tree_at self.old.state (record { 0 = place })) p) }
     {
-        let _next = self.next_var();
         match code.word(p) {
             CodeWord::Var(n) => {
-                let yes = self.match_variable(word, code, p, n + base, base)?;
+                let next = self.next_var();
+                let number = n + base;
+                if next <= number {
+                    self.match_new_variable(place, number)?;
+                    return Ok(Met::Done);
+                }
+                let yes = self.match_variable(place, number)?;
                 Ok(met_by(yes))
             }
             CodeWord::Int(value) => {
-                let yes = self.solve_words(word, int_word(value))?;
+                let yes = self.match_int(place, value)?;
                 Ok(met_by(yes))
             }
             CodeWord::Name(name) => {
-                let yes = self.solve_words(word, Word::Name(name))?;
+                let yes = self.match_name(place, name)?;
                 Ok(met_by(yes))
             }
-            CodeWord::Comp(arity, name, first, _) => match self.resolve(word) {
-                Word::Comp(count, other, place) => {
-                    if name != other {
-                        return Ok(Met::Clash);
-                    }
-                    if arity != count {
-                        return Ok(Met::Clash);
-                    }
-                    Ok(Met::Parts(Span {
-                        place,
-                        code: first,
-                        left: arity as usize,
-                    }))
-                }
-                Word::Var(n) => {
-                    let yes = self.match_built(Word::Var(n), code, p, base)?;
-                    Ok(met_by(yes))
-                }
-                _ => Ok(Met::Clash),
-            },
+            CodeWord::Comp(arity, name, first, _) => {
+                self.match_compound(place, arity, name, first, code, p, base)
+            }
         }
     }
 
-    // Solves the equation of a word and a variable of the code.
-    fn match_variable(
+    // As `match_place`, where the code has this compound.
+    fn match_compound(
         &mut self,
-        word: Word,
+        place: usize,
+        arity: u8,
+        name: NameId,
+        first: usize,
         code: &Code,
         p: usize,
-        n: usize,
         base: usize,
-    ) -> Result<bool, NoMemory>
-        requires word { WordIn (length self.old.state.cells) self.old.state.next word }
-        requires place { p < length code.now.words }
+    ) -> Result<Met, NoMemory>
+        requires place { place < length self.old.state.cells }
+        requires layout { IsCode code.now.words code.now.vars }
+        requires code { p < length code.now.words }
+        requires compound { (from : ℕ) × (CodeWord.Comp arity name first from ≡ slice_index_or code.now.words p no_code) }
         requires base { base ≤ self.old.state.next }
-        requires variable { code_tree_in self.old.state base code.now.words p ≡ tree_of_var self.old.state n }
-        requires low { n < code.now.vars + base }
         ensures extends { Extends self.old.state self.new.state }
         ensures next { self.new.state.next ≤ max self.old.state.next (code.now.vars + base) }
-        ensures answer { IfOk result (λ yes. MatchBool yes (SolvedBy self.old.state self.new.state (code_equation self.old.state base code.now.words word p))
-            (Solved (code_equation self.old.state base code.now.words word p) None)) }
+        ensures met { IfOk result (IsMet self.old.state self.new.state base code.now.words (tree_at self.old.state (record { 0 = place })) p) }
     {
-        if n < self.next_var() {
-            self.solve_words(word, Word::Var(n))
-        } else {
-            self.first(word, n)?;
-            Ok(true)
+        match self.word_at(Ref(place)) {
+            Word::Comp(count, other, place) => {
+                if name != other {
+                    return Ok(Met::Clash);
+                }
+                if arity != count {
+                    return Ok(Met::Clash);
+                }
+                Ok(Met::Parts(Span {
+                    place,
+                    code: first,
+                    left: arity as usize,
+                }))
+            }
+            Word::Var(n) => {
+                let yes = self.bind_built(n, code, p, base)?;
+                Ok(met_by(yes))
+            }
+            _ => Ok(Met::Clash),
         }
     }
 
-    // Solves the equation of a word and a place of the code, which is built.
-    fn match_built(
-        &mut self,
-        word: Word,
-        code: &Code,
-        p: usize,
-        base: usize,
-    ) -> Result<bool, NoMemory>
-        requires word { WordIn (length self.old.state.cells) self.old.state.next word }
-        requires place { p < length code.now.words }
+    // Binds an unbound variable to a compound of the code, which is built, unless it occurs there.
+    fn bind_built(&mut self, n: usize, code: &Code, p: usize, base: usize) -> Result<bool, NoMemory>
+        requires number { n < self.old.state.next }
+        requires free { IsFree n self.old.state.links }
+        requires code { p < length code.now.words }
+        requires compound { IsCompound (slice_index_or code.now.words p no_code) }
         requires base { base ≤ self.old.state.next }
         ensures extends { Extends self.old.state self.new.state }
         ensures next { self.new.state.next ≤ max self.old.state.next (code.now.vars + base) }
-        ensures answer { IfOk result (λ yes. MatchBool yes (SolvedBy self.old.state self.new.state (code_equation self.old.state base code.now.words word p))
-            (Solved (code_equation self.old.state base code.now.words word p) None)) }
+        ensures answer { IfOk result (λ yes. MatchBool yes (SolvedBy self.old.state self.new.state (code_equation self.old.state base code.now.words (var n) p))
+            (Solved (code_equation self.old.state base code.now.words (var n) p) None)) }
     {
-        let built = self.build(code, p, base)?;
-        self.solve_words(word, built)
+        let built = self.build_word(code, p, base)?;
+        self.bind_word(n, built)
     }
 
-    // Solves the equation of a word and a variable that is not there yet, which takes the word.
-    fn first(&mut self, word: Word, n: usize) -> Result<(), NoMemory>
-        requires word { WordIn (length self.old.state.cells) self.old.state.next word }
+    // Solves the equation of a place and a variable that is there.
+    fn match_variable(&mut self, place: usize, n: usize) -> Result<bool, NoMemory>
+        requires place { place < length self.old.state.cells }
+        requires number { n < self.old.state.next }
+        ensures only { OnlyBinds self.old.state self.new.state }
+        ensures answer { IfOk result (λ yes. MatchBool yes
+            (SolvedBy self.old.state self.new.state ((tree_at self.old.state (record { 0 = place }), tree_of_var self.old.state n) ∷ []))
+            (Solved ((tree_at self.old.state (record { 0 = place }), tree_of_var self.old.state n) ∷ []) None)) }
+    {
+        self.solve_words(self.cell(place), Word::Var(n))
+    }
+
+    // Solves the equation of a place and an integer.
+    fn match_int(&mut self, place: usize, value: i64) -> Result<bool, NoMemory>
+        requires { place < length self.old.state.cells }
+        ensures only { OnlyBinds self.old.state self.new.state }
+        ensures answer { IfOk result (λ yes. MatchBool yes
+            (SolvedBy self.old.state self.new.state ((tree_at self.old.state (record { 0 = place }), int value) ∷ []))
+            (Solved ((tree_at self.old.state (record { 0 = place }), int value) ∷ []) None)) }
+    {
+        match self.word_at(Ref(place)) {
+            Word::Int(other) => { if other == value { Ok(true) } else { Ok(false) } }
+            Word::Var(n) => {
+                self.bind_int(n, value)?;
+                Ok(true)
+            }
+            _ => Ok(false),
+        }
+    }
+
+    // Solves the equation of a place and an atom.
+    fn match_name(&mut self, place: usize, name: NameId) -> Result<bool, NoMemory>
+        requires { place < length self.old.state.cells }
+        ensures only { OnlyBinds self.old.state self.new.state }
+        ensures answer { IfOk result (λ yes. MatchBool yes
+            (SolvedBy self.old.state self.new.state ((tree_at self.old.state (record { 0 = place }), atom name.0) ∷ []))
+            (Solved ((tree_at self.old.state (record { 0 = place }), atom name.0) ∷ []) None)) }
+    {
+        match self.word_at(Ref(place)) {
+            Word::Name(other) => { if other == name { Ok(true) } else { Ok(false) } }
+            Word::Var(n) => {
+                self.bind_name(n, name)?;
+                Ok(true)
+            }
+            _ => Ok(false),
+        }
+    }
+
+    // Binds an unbound variable to an integer, which it cannot occur in.
+    fn bind_int(&mut self, n: usize, value: i64) -> Result<(), NoMemory>
+        requires number { n < self.old.state.next }
+        requires free { IsFree n self.old.state.links }
+        ensures binds { OnOk result (Binds self.old.state self.new.state n (int value)) }
+        ensures err { OnErr result (self.new.state ≡ self.old.state) }
+    {
+        self.reserve_binding()?;
+        self.attach(n, Word::Int(value));
+        Ok(())
+    }
+
+    // Binds an unbound variable to an atom, which it cannot occur in.
+    fn bind_name(&mut self, n: usize, name: NameId) -> Result<(), NoMemory>
+        requires number { n < self.old.state.next }
+        requires free { IsFree n self.old.state.links }
+        ensures binds { OnOk result (Binds self.old.state self.new.state n (atom name.0)) }
+        ensures err { OnErr result (self.new.state ≡ self.old.state) }
+    {
+        self.reserve_binding()?;
+        self.attach(n, Word::Name(name));
+        Ok(())
+    }
+
+    // Solves the equation of a place and a variable that is not there yet, which takes the place's word.
+    fn match_new_variable(&mut self, place: usize, n: usize) -> Result<(), NoMemory>
+        requires place { place < length self.old.state.cells }
         requires number { self.old.state.next ≤ n }
         ensures extends { Extends self.old.state self.new.state }
         ensures next { self.new.state.next ≤ n + 1 }
-        ensures solved { OnOk result (SolvedBy self.old.state self.new.state ((tree_of_word self.old.state word, var n) ∷ [])) }
+        ensures solved { OnOk result (SolvedBy self.old.state self.new.state ((tree_at self.old.state (record { 0 = place }), var n) ∷ [])) }
     {
         self.make_below(n)?;
-        let word = self.resolve(word);
+        let word = self.word_at(Ref(place));
         self.add_bound(word)
     }
 

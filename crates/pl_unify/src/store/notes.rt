@@ -4,10 +4,10 @@ ghost use Rattle.run_model.specs.Substitution.{occurs, occurs_any};
 ghost use Rattle.pl_unify.specs.Words.{IsFree, WordIn};
 ghost use Rattle.pl_unify.specs.State.{tree_of_word};
 ghost use Rattle.pl_unify.specs.Prefix.{trees};
-ghost use Rattle.pl_unify.specs.Notes.{GroundBlock, block, InOrder, Forgotten, visits, visit_trees, StepsIn, Honest, Entered};
+ghost use Rattle.pl_unify.specs.Notes.{GroundBlock, block, InOrder, Forgotten, visits, visit_trees, StepsIn, Honest, Clears, ClearBlock, IsPassed, Entered};
 
 use super::Store;
-use crate::list::push;
+use crate::list::{make_room, push, put};
 use crate::word::{Ref, Word};
 use pl_atoms::NoMemory;
 
@@ -64,28 +64,66 @@ impl Store {
         Some(false)
     }
 
-    // Whether a walk meets the variable.
+    // Whether a walk meets the variable. Blocks that the walk went through are passed where it has met many variables, so that terms
+    // whose parts are shared are not gone through path by path.
     fn walk(&mut self, n: usize, work: &mut Vec<Step>) -> Result<bool, NoMemory>
         requires below { StepsIn (length self.old.state.cells) (reverse work.old.items) }
         requires honest { Honest self.old.state 0 (Unit {0}) (reverse work.old.items) }
+        requires clears { Clears self.old.state n (Unit {0}) (reverse work.old.items) }
         ensures state { self.new.state ≡ self.old.state }
         ensures answer { IfOk result (λ yes. yes ≡ occurs_any n (trees (visit_trees self.old.state (reverse work.old.items)))) }
     {
-        // How many unbound variables were met.
+        // How many unbound variables were met, or passed.
         let mut met: usize = 0;
+        let mut passed: Vec<u8> = Vec::new(self.alloc);
         'steps: while let Some(step) = work.pop() {
             match step {
                 Step::Visit(place) => match self.word_at(Ref(place)) {
                     Word::Var(m) if n == m => return Ok(true),
                     Word::Var(_) => met = one_more(met)?,
-                    Word::Comp(arity, _, first) => self.enter(first, arity, met, work)?,
+                    Word::Comp(arity, _, first) => {
+                        if self.is_passed(&passed, first, arity) {
+                            met = one_more(met)?;
+                        } else {
+                            self.enter(first, arity, met, work)?;
+                        }
+                    }
                     _ => {}
                 },
                 Step::Done(first, arity, before) if before == met => self.note(first, arity),
-                Step::Done(_, _, _) => {}
+                Step::Done(first, arity, _) => self.pass(&mut passed, first, arity, met),
             }
         }
         Ok(false)
+    }
+
+    // Keeps that a walk went through a block and has not met the variable. The list of these is begun where as many variables were
+    // met as there are places, so that making it takes no longer than the walk has taken.
+    fn pass(&self, passed: &mut Vec<u8>, first: usize, count: u8, met: usize)
+        requires { first + count ≤ length self.now.state.cells }
+        ensures { (n : ℕ) → ClearBlock self.now.state n first count → IsPassed self.now.state n passed.old.items → IsPassed self.now.state n passed.new.items }
+    {
+        let _next = self.next_var();
+        if count == 0 || met < self.cells.len() {
+            return;
+        }
+        let last = first + (count - 1) as usize;
+        if fill(passed, last) {
+            passed[last] = count;
+        }
+    }
+
+    // Whether a walk went through a block.
+    fn is_passed(&self, passed: &Vec<u8>, first: usize, count: u8) -> bool
+        requires { first + count ≤ length self.now.state.cells }
+        ensures { IsTrue result → (n : ℕ) → IsPassed self.now.state n passed.now.items → ClearBlock self.now.state n first count }
+    {
+        let _next = self.next_var();
+        if count == 0 {
+            return false;
+        }
+        let last = first + (count - 1) as usize;
+        last < passed.len() && count <= passed[last]
     }
 
     // Goes into a block, unless it is noted.
@@ -190,9 +228,10 @@ fn push_visits(work: &mut Vec<Step>, first: usize, count: u8) -> Result<(), NoMe
     ensures { OnOk result (reverse work.new.items ≡ visits first count ++ reverse work.old.items) }
 {
     let mut left = count as usize;
+    make_room(work, left)?;
     while left > 0 {
         left -= 1;
-        push(work, Step::Visit(first + left))?;
+        put(work, Step::Visit(first + left));
     }
     Ok(())
 }

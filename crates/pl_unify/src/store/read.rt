@@ -6,8 +6,8 @@ ghost use Rattle.pl_unify.specs.Shape.{root, arity, argument};
 ghost use Rattle.pl_unify.specs.Stack.{span};
 
 use super::Store;
-use crate::list::push;
-use crate::word::{Ref, View, Word, is_variable};
+use crate::list::{make_room, push, put};
+use crate::word::{Ref, View, Word};
 use pl_atoms::NoMemory;
 use pl_terms::{Cell, Term, TermBuf};
 use std::alloc::Global;
@@ -22,11 +22,15 @@ impl Store {
     {
         let mut word = word;
         while let Word::Var(n) = word {
-            let next = self.vars[n];
-            if is_variable(next, n) {
-                break;
+            match self.vars[n] {
+                Word::Var(m) => {
+                    if m == n {
+                        break;
+                    }
+                    word = Word::Var(m);
+                }
+                other => return other,
             }
-            word = next;
         }
         word
     }
@@ -108,9 +112,10 @@ fn push_span(work: &mut Vec<usize>, first: usize, count: u8) -> Result<(), NoMem
     ensures { OnOk result (reverse work.new.items ≡ span first count ++ reverse work.old.items) }
 {
     let mut left = count as usize;
+    make_room(work, left)?;
     while left > 0 {
         left -= 1;
-        push(work, first + left)?;
+        put(work, first + left);
     }
     Ok(())
 }

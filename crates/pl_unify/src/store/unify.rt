@@ -8,7 +8,7 @@ ghost use Rattle.pl_unify.specs.Steps.{pair_span, PairsBelow, IsStep, IsTurn, On
 ghost use Rattle.pl_unify.specs.Match.{SolvedBy};
 
 use super::Store;
-use crate::list::push;
+use crate::list::{make_room, push, put};
 use crate::word::{Ref, Word};
 use pl_atoms::NoMemory;
 
@@ -67,8 +67,9 @@ impl Store {
         solved
     }
 
-    // Solves the equation of two words.
-    pub(super) fn solve_words(&mut self, left: Word, right: Word) -> Result<bool, NoMemory>
+    /// Solves the equation of two words (ISO/IEC 13211-1, 7.3.2): true where a unifier exists, and then their most general
+    /// unifier is applied to all terms. Where it is not `Ok(true)`, bindings may have been added: the caller goes back to a mark.
+    pub fn solve_words(&mut self, left: Word, right: Word) -> Result<bool, NoMemory>
         requires left { WordIn (length self.old.state.cells) self.old.state.next left }
         requires right { WordIn (length self.old.state.cells) self.old.state.next right }
         ensures only { OnlyBinds self.old.state self.new.state }
@@ -95,7 +96,7 @@ impl Store {
     }
 
     // Binds an unbound variable to a word that is followed to its end, unless it occurs there.
-    fn bind_word(&mut self, n: usize, word: Word) -> Result<bool, NoMemory>
+    pub(super) fn bind_word(&mut self, n: usize, word: Word) -> Result<bool, NoMemory>
         requires number { n < self.old.state.next }
         requires free { IsFree n self.old.state.links }
         requires within { WordIn (length self.old.state.cells) self.old.state.next word }
@@ -218,9 +219,10 @@ pub(super) fn push_pairs(
     ensures { OnOk result (reverse work.new.items ≡ pair_span first second count ++ reverse work.old.items) }
 {
     let mut left = count as usize;
+    make_room(work, left)?;
     while left > 0 {
         left -= 1;
-        push(work, (first + left, second + left))?;
+        put(work, (first + left, second + left));
     }
     Ok(())
 }

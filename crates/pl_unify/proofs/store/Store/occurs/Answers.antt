@@ -40,3 +40,6 @@ returns-clause-answer c =
 
 pub returns-in-Some-clause-answer : goal.returns-in-Some-clause-answer
 returns-in-Some-clause-answer c = c.in-Some.ensures ∙ sym (ap (occurs c.args.n) (tree_of_word-shape c.args.self.now.state c.args.word c.requires.free ∙ ap (shape c.args.self.now.state) c.in-Comp.is))
+
+pub walk-found-requires-clause-clears : goal.walk-found-requires-clause-clears
+walk-found-requires-clause-clears c = (begun (goal.at.walk-found-requires-clause-clears c).In_ok-push_visits).clears

@@ -1,9 +1,10 @@
-use Rattle.std.proofs.Common.{◌≡◌, ◌+◌, ◌-◌, ◌≤◌, ◌++◌, reverse}
+use Rattle.std.proofs.Common.{◌≡◌, ◌+◌, ◌-◌, ◌≤◌, ◌++◌, reverse, vec_len, vec_capacity}
 use Rattle.pl_unify.specs.Stack.{span}
 use Rattle.pl_unify.proofs.store.read.push_span.Given as goal
 
 abbrev pub invariant-loop-left : goal.invariant-loop-left
 invariant-loop-left l = record {
+  room : vec_len l.work + l.left ≤ vec_capacity l.work;
   few : l.left ≤ l.count;
   pushed : reverse l.work.items ≡ span (l.first + l.left) (l.count - l.left) ++ reverse l.initial.work.items;
 }

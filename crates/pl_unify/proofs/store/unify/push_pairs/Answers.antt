@@ -8,8 +8,9 @@ loop-left-preserved c =
     let k : ℕ = c.loop-left.left - 1 in
     let one : c.loop-left.left ≡ k + 1 = omega arith in
     record {
+      room = omega (arith, one, c.put.ensures.len, c.put.ensures.capacity, c.loop-left.invariant.room);
       few = omega arith;
-      pushed = ap reverse c.in_ok-push.ensures.ok ∙ (reverse-push_pair c.loop-left.work.items (c.args.first + k, c.args.second + k)
-          ∙ (ap (λ r. (c.args.first + k, c.args.second + k) ∷ r) (c.loop-left.invariant.pushed ∙ ap (λ m. pair_span (c.args.first + m) (c.args.second + m) (c.args.count - m) ++ reverse c.args.work.now.items) one)
-          ∙ pair_span-more c.args.first c.args.second c.args.count k (reverse c.args.work.now.items) (omega arith)));
+      pushed = ap reverse c.put.ensures.items ∙ (reverse-push_pair c.loop-left.work.items (c.args.first + k, c.args.second + k)
+          ∙ (ap (λ r. (c.args.first + k, c.args.second + k) ∷ r) (c.loop-left.invariant.pushed ∙ ap (λ m. pair_span (c.args.first + m) (c.args.second + m) (c.args.count - m) ++ reverse c.make_room.new.list.items) one)
+          ∙ pair_span-more c.args.first c.args.second c.args.count k (reverse c.make_room.new.list.items) (omega arith)));
     }

@@ -6,7 +6,7 @@ use Rattle.pl_unify.specs.State.{tree_of_word}
 use Rattle.pl_unify.specs.declared.word.Word.TheVariants.{Var}
 use Rattle.pl_unify.proofs.Building.{built_comp}
 use Rattle.pl_unify.proofs.Matching.{code_word, code_var}
-use Rattle.pl_unify.proofs.store.Store.build.Goals as goal
+use Rattle.pl_unify.proofs.store.Store.build_word.Goals as goal
 
 pub overflow_add-result-in-Comp : goal.overflow_add-result-in-Comp
 overflow_add-result-in-Comp c =
