@@ -15,7 +15,7 @@ silent : (b : Library) (x : Configuration (language_of b)) (p : Path) (left : �
 silent b x p left On t = tells_of (language_of b) x (search_at b p (point_here b p) left) t
 silent b x p left Fails t = tells_of (language_of b) x (search_at b p (Over Failed) left) t
 silent b x p left (Halts z) t = tells_of (language_of b) x (search_at b p (Over (Halted z)) left) t
-silent b x p left (Uncaught ball) t = (t.0, t.1, tells_of (language_of b) x (search_at b p (Over (Thrown ball t.0)) left) t.2)
+silent b x p left (Uncaught ball) t = (t.0, t.1, tells_of (language_of b) x (search_at b p (Over (Thrown ball.value t.0)) left) t.2)
 
 no_bytes : (text : List ℕ) → text ≡ text ++ []
 no_bytes [] = refl

@@ -14,7 +14,7 @@ pub stays_after : (b : Library) (p : Path) (left : ℕ) (x y : Configuration (la
 stays_after b p left x y On one two = turns_then (language_of b) x y (search_at b p (point_here b p) left) one two
 stays_after b p left x y Fails one two = turns_then (language_of b) x y (search_at b p (Over Failed) left) one two
 stays_after b p left x y (Halts z) one two = turns_then (language_of b) x y (search_at b p (Over (Halted z)) left) one two
-stays_after b p left x y (Uncaught t) one two = (two.0, two.1, turns_then (language_of b) x y (search_at b p (Over (Thrown t two.0)) left) one two.2)
+stays_after b p left x y (Uncaught t) one two = (two.0, two.1, turns_then (language_of b) x y (search_at b p (Over (Thrown t.value two.0)) left) one two.2)
 
 -- a search turned to where a move begins
 pub moved_after : (b : Library) (p q r : Path) (x y : ℕ → Configuration (language_of b)) (g : Going) → q.depth ≤ p.depth → q.width ≡ p.width → ((left : ℕ) → Turns (language_of b) (x left) (y left)) → Moved b q r y g → Moved b p r x g

@@ -18,7 +18,7 @@ use Rattle.goal_records.specs.declared.library.Library.{Library}
 use Rattle.goal_records.specs.Denotation.{linked, naming, language_of}
 use Rattle.goal_moves.proofs.ThinLaws.{turn_thins}
 
-untried_fits : (r : Resolution ℕ) (cs : List (Clause ℕ)) → list_any (is_untried nat_eq) (map (resolves r) cs) ≡ any_fits (key_of r.goal) cs
+pub untried_fits : (r : Resolution ℕ) (cs : List (Clause ℕ)) → list_any (is_untried nat_eq) (map (resolves r) cs) ≡ any_fits (key_of r.goal) cs
 untried_fits r [] = refl
 untried_fits r (c ∷ cs) = ap (λ x. fits nat_eq (key_of r.goal) c.head || x) (untried_fits r cs)
 

@@ -1,13 +1,13 @@
 -- Control constructs that run from the instructions of a clause's body.
 use Rattle.std.proofs.Common.{◌≡◌, ℕ, ◌+◌, ◌-◌, ◌≤◌, List, [], ◌∷◌, ◌++◌, Option, Some, None, refl, sym, ap, ◌∙◌, subst, arith, length, reverse}
-use Rattle.std.specs.Prelude.{true}
+use Rattle.std.specs.Prelude.{Bool, true, false}
 use Rattle.pl_terms.specs.Trees.{Tree}
 use Rattle.pl_unify.specs.declared.code.CodeWord.{CodeWord}
 use Rattle.pl_unify.specs.Code.{code_tree}
 use Rattle.pl_unify.specs.State.{bound}
 use Rattle.search_theory.specs.Search.{Call, Cut, FrameOf, Tries}
 use Rattle.goal_model.specs.Bodies.{Goal, flat}
-use Rattle.goal_model.specs.Rows.{commit, if_then_else as if_then_else_row, if_then as if_then_row, either, row_of}
+use Rattle.goal_model.specs.Rows.{Row, commit, if_then_else as if_then_else_row, if_then as if_then_row, either, row_of}
 use Rattle.goal_model.specs.Table.{Items, node as node_of, on}
 use Rattle.goal_code.specs.declared.instruction.Instruction.{Instruction}
 use Rattle.goal_code.specs.declared.instruction.Instruction.TheVariants as I
@@ -35,9 +35,11 @@ use Rattle.goal_moves.specs.declared.going.Going.TheVariants.{On}
 use Rattle.goal_moves.specs.Branching.{condition_from}
 use Rattle.goal_moves.specs.Control.{OpenedHere}
 use Rattle.goal_moves.specs.Moves.{called, IsCode, Moved, Entered, here}
+use Rattle.goal_moves.specs.Untried.{has_more, Leaves}
 use Rattle.goal_moves.proofs.Steady.{Steady, floor_fits, steady_here, steady_entered, steady_branch, steady_at, opened_place, opened_state}
 use Rattle.goal_moves.proofs.CutMoves.{moved_cut}
-use Rattle.goal_moves.proofs.Turning.{stack_of, goal_does, goal_acts, goal_goes_one, goal_goes_two, goal_moved_on}
+use Rattle.goal_moves.proofs.Turning.{stack_of, goal_does, goal_done_by, goal_acts, goal_goes_one, goal_goes_two, goal_moved_on}
+use Rattle.goal_moves.proofs.UntriedRows.{leaves_of, leaves_goal}
 use Rattle.goal_moves.proofs.CodeMoves.{code_sound, code_settled, code_base, first_goal, first_items}
 
 -- an end of a condition, which leads to the goals of a term
@@ -132,6 +134,12 @@ module _ (b : Library) (lib : IsLibrary b) (p : Path) (c : Instruction) (st : Se
   stands : (node : ℕ) (new : Path) → Moved b p new (called b p node from) On → Moved b p new (called b p node (items_here b p p.f p.pc)) On
   stands node new m = subst (λ l. Moved b p new (called b p node l) On) (sym (first_items b p c st code lib chained)) m
 
+  -- what the instruction leaves untried, where the row of its goal is known
+  leaves_from : (node : ℕ) (new : Path) (r : Row ℕ) (x : Bool) → row_of (naming b) (first_goal b p c st code).tree ≡ r → leaves_of b (goal_done_by b p node (first_goal b p c st code) (around (next_of c)) r) ≡ x → has_more p new ≡ x
+      → Leaves b p new (called b p node (items_here b p p.f p.pc))
+  leaves_from node new r x is says more =
+      subst (λ l. Leaves b p new (called b p node l)) (sym (first_items b p c st code lib chained)) (leaves_goal b p new node (first_goal b p c st code) (around (next_of c)) r x is says more)
+
   module _ (node : ℕ) (well : IsWellWith b p (reverse p.choices.items) node) (deep : p.depth ≡ node + 1) where
     -- ---- a record of another part, which goes on at a place of the same frame
 
@@ -182,21 +190,24 @@ module _ (b : Library) (lib : IsLibrary b) (p : Path) (c : Instruction) (st : Se
 -- ---- the constructs
 
 -- a cut stands first
+cut_row : (b : Library) (lib : IsLibrary b) (p : Path) (g n : ℕ) (st : Setting) (code : IsCode b p (I.Cut g n) st) → IsLinked p.frames → row_of (naming b) (first_goal b p (I.Cut g n) st code).tree ≡ commit
+cut_row b lib p g n st code chained = go (shape_of b.constructs.names.control (first_tree b lib p (I.Cut g n) st code chained)) (first_parts b lib p (I.Cut g n) st code chained) (first_row b lib p (I.Cut g n) st code chained).0
+  where
+    go : (x : Shape) → HasParts b.constructs.names.control (bodies b st.clause).words (bodies b st.clause).code (I.Cut g n) x
+        → IsRow (up b lib p (I.Cut g n) st code chained) x (row_of (naming b) (first_goal b p (I.Cut g n) st code).tree) → row_of (naming b) (first_goal b p (I.Cut g n) st code).tree ≡ commit
+    go cut h r = r
+    go x h r = absurd h
+
 pub moved_cut_from : (b : Library) (lib : IsLibrary b) (p : Path) (g n : ℕ) (st : Setting) → IsCode b p (I.Cut g n) st → IsLinked p.frames → (node : ℕ) → IsWellWith b p (reverse p.choices.items) node → p.depth ≡ node + 1
     → (q : Path) → reverse q.choices.items ≡ kept st.depth (reverse p.choices.items) → q.template ≡ template_kept st.depth (reverse p.choices.items) p.template → answers_of q ≡ answers_kept st.depth (reverse p.choices.items) (answers_of p)
     → q ≡ record p { choices = q.choices; template = q.template; gathered = q.gathered } → Moved b p (record q { pc = n }) (called b p node (items_here b p p.f p.pc)) On
 moved_cut_from b lib p g n st code chained node well deep q choices template answers others =
     let f : p.f ≡ q.f = ap (λ r. r.f) (sym others) in
     stands b lib p (I.Cut g n) st code chained node (record q { pc = n })
-    (moved_cut b p q node (first_goal b p (I.Cut g n) st code) (items_here b p p.f n) deep well choices template answers others q.f n row (ap (λ k. items_here b p k n) (sym f)))
-  where
-    row : row_of (naming b) (first_goal b p (I.Cut g n) st code).tree ≡ commit
-    row = go (shape_of b.constructs.names.control (first_tree b lib p (I.Cut g n) st code chained)) (first_parts b lib p (I.Cut g n) st code chained) (first_row b lib p (I.Cut g n) st code chained).0
-      where
-        go : (x : Shape) → HasParts b.constructs.names.control (bodies b st.clause).words (bodies b st.clause).code (I.Cut g n) x
-            → IsRow (up b lib p (I.Cut g n) st code chained) x (row_of (naming b) (first_goal b p (I.Cut g n) st code).tree) → row_of (naming b) (first_goal b p (I.Cut g n) st code).tree ≡ commit
-        go cut h r = r
-        go x h r = absurd h
+    (moved_cut b p q node (first_goal b p (I.Cut g n) st code) (items_here b p p.f n) deep well choices template answers others q.f n (cut_row b lib p g n st code chained) (ap (λ k. items_here b p k n) (sym f)))
+
+pub leaves_cut_from : (b : Library) (lib : IsLibrary b) (p : Path) (g n : ℕ) (st : Setting) → IsCode b p (I.Cut g n) st → IsLinked p.frames → (node : ℕ) (new : Path) → has_more p new ≡ false → Leaves b p new (called b p node (items_here b p p.f p.pc))
+leaves_cut_from b lib p g n st code chained node new more = leaves_from b lib p (I.Cut g n) st code chained node new commit false (cut_row b lib p g n st code chained) refl more
 
 -- a disjunction stands first
 module _ (b : Library) (lib : IsLibrary b) (p : Path) (g l r n : ℕ) (st : Setting) (code : IsCode b p (I.Either g l r n) st) (chained : IsLinked p.frames)
@@ -237,6 +248,10 @@ module _ (b : Library) (lib : IsLibrary b) (p : Path) (g l r n : ℕ) (st : Sett
       (opened_around b lib p (I.Either g l r n) st code chained node well deep q r o l ∙ sides.on_left)
       (goal_acts b p node either_goal (items_here b p p.f n) (either (standing (bound (state_of p)) st.base sides.first) (standing (bound (state_of p)) st.base sides.second)) sides.row)
       sides.on_right
+
+  pub leaves_either_from : (new : Path) → has_more p new ≡ true → Leaves b p new (called b p node (items_here b p p.f p.pc))
+  leaves_either_from new more =
+      leaves_from b lib p (I.Either g l r n) st code chained node new (either (standing (bound (state_of p)) st.base sides.first) (standing (bound (state_of p)) st.base sides.second)) true sides.row refl more
 
 -- an if-then-else or an if-then stands first
 module _ (b : Library) (lib : IsLibrary b) (p : Path) (g k m : ℕ) (o : Option ℕ) (n : ℕ) (st : Setting) (code : IsCode b p (I.If g k m o n) st) (chained : IsLinked p.frames)
@@ -314,6 +329,11 @@ module _ (b : Library) (lib : IsLibrary b) (p : Path) (g k m : ℕ) (o : Option 
       (arrow_items p new t.condition t.behind t.arrow refl (λ pc. refl) refl h)
       (goal_goes_one b p node if_goal rest_of items (goal_acts b p node if_goal rest_of (if_then_row (on_path t.condition) (on_path t.behind)) t.row)))
 
+  pub leaves_then_from : o ≡ None → (new : Path) → has_more p new ≡ false → Leaves b p new (called b p node (items_here b p p.f p.pc))
+  leaves_then_from none new more =
+      let t : Then = then_parts none in
+      leaves_from b lib p (I.If g k m o n) st code chained node new (if_then_row (on_path t.condition) (on_path t.behind)) false t.row refl more
+
   -- ---- with another part
 
   record Else (z' : ℕ) : Type 0 where
@@ -354,3 +374,8 @@ module _ (b : Library) (lib : IsLibrary b) (p : Path) (g k m : ℕ) (o : Option 
       (opened_around b lib p (I.If g k m o n) st code chained node well deep q place opened) (ap (λ r. r.depth) opened.opened.others) h)
       (goal_acts b p node if_goal rest_of (if_then_else_row (on_path t.condition) (on_path t.behind) (on_path t.other)) t.row)
       t.on_other
+
+  pub leaves_else_from : (place : ℕ) → o ≡ Some place → (new : Path) → has_more p new ≡ true → Leaves b p new (called b p node (items_here b p p.f p.pc))
+  leaves_else_from place some new more =
+      let t : Else place = else_parts place some in
+      leaves_from b lib p (I.If g k m o n) st code chained node new (if_then_else_row (on_path t.condition) (on_path t.behind) (on_path t.other)) true t.row refl more

@@ -212,6 +212,7 @@ module _ (b : Library) (p q : Path) (c : Choice) (name : NameId) (catcher recove
             well = subst (λ d. IsWellWith b new (reverse new.choices.items) d) (sym depth) st.well;
             low = omega (arith, depth, shallow);
             width = st.width ∙ ap (λ (x : Path). x.width) others;
+            choices = ap (λ (x : Path). x.choices) r.entered.others ∙ ap (λ (x : Path). x.choices) others;
             goes = λ left x m.
                 turns_then L x (search_with b p (At (record { depth = c.depth + 1; items = items; world = world_here b end })) (frames_on b end (reverse end.choices.items)) left) (search_at b new (point_here b new) left)
                 (caught_turns r.rest r.same (At (record { depth = c.depth + 1; items = items; world = world_here b end })) point from active left x m)

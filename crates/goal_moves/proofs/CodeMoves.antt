@@ -1,6 +1,6 @@
 -- The goals of instructions.
 use Rattle.std.proofs.Common.{◌≡◌, ℕ, zero, suc, ◌+◌, ◌<◌, ◌≤◌, List, [], ◌∷◌, Some, refl, sym, ap, ◌∙◌, subst, arith, length, reverse, inl, inr}
-use Rattle.std.specs.Prelude.{true}
+use Rattle.std.specs.Prelude.{true, nat_lt}
 use Rattle.std.proofs.lemmas.Bool.{cases_lt}
 use Rattle.std.proofs.lemmas.List.{get_or_past, length-reverse}
 use Rattle.pl_unify.specs.declared.word.Ref.{Ref}
@@ -33,6 +33,7 @@ use Rattle.goal_moves.specs.declared.active.Active.{Active}
 use Rattle.goal_moves.specs.declared.going.Going.{Going}
 use Rattle.goal_moves.specs.Control.{Grew, GoalHere}
 use Rattle.goal_moves.specs.Moves.{Stays, called, goal_items, IsCode, Activated}
+use Rattle.goal_moves.specs.Untried.{Leaves, leaves_untried}
 use Rattle.goal_moves.proofs.Steady.{Steady, steady_here, steady_grown, grown_items, grown_length}
 
 no_instruction : (pc : ℕ) (c : Instruction) → instruction_at [] pc ≡ Some c → ⊥
@@ -115,6 +116,7 @@ module _ (b : Library) (p : Path) (c : Instruction) (st : Setting) (code : IsCod
         }) ∙ ap (λ l. called b p node l left) (sym stands);
         depth = s.depth;
         width = s.width;
+        choices = ap (λ r. r.choices) g.others;
       }
 
 -- an activation from there is one from before
@@ -128,3 +130,10 @@ activated_here b old mid new node a before after g h m = record {
   width = m.width ∙ h.width;
   goes = λ left. subst (λ x. Stays b (Tells (language_of b) (shown m.bytes) x) new left g) (h.same left) (m.goes left);
 }
+
+-- what is left untried is so too
+pub leaves_here : (b : Library) (old mid new : Path) (node : ℕ) (a : Active) → GoalHere b old mid node a → Leaves b mid new (called b mid a.node (goal_items b mid a)) → Leaves b old new (called b old node (items_here b old old.f old.pc))
+leaves_here b old mid new node a h m = λ left.
+    ap (λ cs. nat_lt (length cs.items) (length new.choices.items)) (sym h.choices)
+    ∙ m left
+    ∙ ap (leaves_untried b) (h.same left)

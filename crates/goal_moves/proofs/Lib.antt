@@ -38,5 +38,10 @@ pub mod ThrowLaws
 pub mod TryLaws
 pub mod Turning
 pub mod UnderLaws
+pub mod UntriedCalls
+pub mod UntriedClauses
+pub mod UntriedLaws
+pub mod UntriedPlain
+pub mod UntriedRows
 pub mod ValueLaws
 pub mod WalkLaws

@@ -4,6 +4,7 @@ use Rattle.pl_atoms.specs.declared.memory.NoMemory.{NoMemory}
 use Rattle.run_model.specs.Substitution.{raise}
 use Rattle.run_model.specs.Mgu.{mgu}
 use Rattle.pl_unify.specs.declared.store.Mark.{Mark}
+use Rattle.pl_unify.specs.declared.word.Ref.{Ref}
 use Rattle.pl_unify.specs.State.{State, tree_at, IsRef, IsStore, Extends}
 use Rattle.pl_unify.specs.Code.{last_tree}
 use Rattle.pl_unify.specs.Shape.{root}
@@ -47,12 +48,12 @@ take_enters b p q a c base start code result is at h = on_ok result h
     on_ok (Err e) h = tt
 
 -- the goal and the head have the same root
-pub heads_agree : (b : Library) (p : Path) (a : Attempt) (c : ℕ) (code : ClauseCode) → IsLibrary b → IsStore (state_of p) → IsRef (state_of p) a.goal → IsGoalOf (linked b) c (tree_at (state_of p) a.goal)
-    → IsProper (clause_at (linked b) c).clause.head → code ≡ code_at b.codes c → root (tree_at (state_of p) a.goal) ≡ root (last_tree code.head.words)
-heads_agree b p a c code lib store is fits proper same =
+pub heads_agree : (b : Library) (p : Path) (goal : Ref) (c : ℕ) (code : ClauseCode) → IsLibrary b → IsStore (state_of p) → IsRef (state_of p) goal → IsGoalOf (linked b) c (tree_at (state_of p) goal)
+    → IsProper (clause_at (linked b) c).clause.head → code ≡ code_at b.codes c → root (tree_at (state_of p) goal) ≡ root (last_tree code.head.words)
+heads_agree b p goal c code lib store is fits proper same =
     let entered = lib.facts.clauses c fits.0 in
     let coded = lib.codes.each c fits.0 in
-    roots_agree (tree_at (state_of p) a.goal) (clause_at (linked b) c).clause.head _ (store_proper (state_of p) a.goal store is) proper fits.1 entered.clause.head
+    roots_agree (tree_at (state_of p) goal) (clause_at (linked b) c).clause.head _ (store_proper (state_of p) goal store is) proper fits.1 entered.clause.head
     ∙ ap root (sym (ap (λ (k : ClauseCode). last_tree k.head.words) same ∙ coded.head))
 
 -- ---- records around a deeper node
@@ -115,7 +116,7 @@ module _ (b : Library) (p q : Path) (a : Attempt) (c : ℕ) (others : q ≡ reco
     mid_choices,
   )
 
-abbrev with_state : Path → State → Path
+abbrev pub with_state : Path → State → Path
 with_state p s = record p { store = record p.store { state = s } }
 
 tried_same : (b : Library) (p q : Path) (a : Attempt) (n left : ℕ) → q ≡ record p { store = q.store } → state_of q ≡ state_of p → tried b q a n left ≡ tried b p a n left

@@ -126,7 +126,7 @@ pub stays_then : (b : Library) (x y : Configuration (language_of b)) (p : Path) 
 stays_then b x y p left On t h = turns_then (language_of b) x y (search_at b p (point_here b p) left) t h
 stays_then b x y p left Fails t h = turns_then (language_of b) x y (search_at b p (Over Failed) left) t h
 stays_then b x y p left (Halts z) t h = turns_then (language_of b) x y (search_at b p (Over (Halted z)) left) t h
-stays_then b x y p left (Uncaught ball) t h = (h.0, h.1, turns_then (language_of b) x y (search_at b p (Over (Thrown ball h.0)) left) t h.2)
+stays_then b x y p left (Uncaught ball) t h = (h.0, h.1, turns_then (language_of b) x y (search_at b p (Over (Thrown ball.value h.0)) left) t h.2)
 
 -- a ball goes outward from where the goal leads
 pub moved_raised : (b : Library) (old mid new : Path) (a : Active) (d : ℕ) (fs : List (FrameOf (language_of b))) (ball ball' : Tree ℕ) (active active' : List ℕ) (g : Going)

@@ -48,10 +48,13 @@ use Rattle.goal_moves.specs.declared.values.ValueGoal.{ValueGoal}
 use Rattle.goal_moves.specs.declared.values.ValueGoal.TheVariants as V
 use Rattle.goal_moves.specs.Moves.{called, IsCode, Activated}
 use Rattle.goal_moves.specs.Values.{IsPair, DoesBy, IsValueGoal, value_deed}
+use Rattle.goal_moves.specs.Untried.{Leaves}
 use Rattle.goal_moves.proofs.CodeMoves.{first_goal, first_items}
 use Rattle.goal_moves.proofs.PlainLaws.{yes-does, no-does}
 use Rattle.goal_moves.proofs.RowNames.{either-not}
 use Rattle.goal_moves.proofs.TargetLaws.{root_stands, kept_target}
+use Rattle.goal_moves.proofs.UntriedLaws.{same_records}
+use Rattle.goal_moves.proofs.UntriedPlain.{plain_leaves}
 
 -- ---- two arguments in code
 
@@ -196,6 +199,11 @@ module _ (b : Library) (p : Path) (c : Instruction) (st : Setting) (code : IsCod
 
     abbrev met : Done → Type 0
     met done = Meets (state_of p) store.state (value_deed (state_of p) st.base words goal) done
+
+    pub leaves_nothing : (new : Path) → new.choices ≡ p.choices → Leaves b p new (called b p node (items_here b p p.f p.pc))
+    leaves_nothing new same =
+        subst (λ l. Leaves b p new (called b p node l)) stands
+        (plain_leaves b p tree st node f pc v.row (v.does.left ∷ v.does.right ∷ []) v.is new (same_records p new same))
 
     pub goes_on : (done : Done) → done ≡ D.Yes → met done → Activated b p (record p { store = store; f = f; pc = pc }) (called b p node (items_here b p p.f p.pc)) text text On
     goes_on done e h =

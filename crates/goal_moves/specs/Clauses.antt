@@ -28,6 +28,8 @@ use Rattle.goal_moves.specs.declared.user.Attempt.{Attempt}
 use Rattle.goal_moves.specs.declared.user.Tried.{Tried}
 use Rattle.goal_moves.specs.declared.user.Tried.TheVariants.{Taken, Next, Gone}
 use Rattle.goal_moves.specs.Moves.{IsTrying, Moved, tried}
+use Rattle.goal_moves.specs.Untried.{behind_taken, clause_alternatives, TriesLeave}
+use Rattle.pl_store.specs.Runs.{program_of}
 
 -- a compound has arguments
 abbrev pub IsProper : Tree ℕ → Type 0
@@ -69,6 +71,14 @@ abbrev pub WasTried : Library → Path → Path → Attempt → ℕ → Tried �
 WasTried b old new a c Taken = Moved b old new (tried b old a c) On
 WasTried b old new a c (Next n) = WasSkipped b old new a c n.0
 WasTried b old new a c Gone = Moved b old new (tried b old a c) Fails × (new.choices ≡ old.choices)
+
+-- What a clause that was tried leaves untried: where the trying ends, there are more records exactly where something is; where another
+-- clause is next, as much is behind the one that will be taken.
+abbrev pub TriedLeaves : Library → Path → Path → Attempt → ℕ → Tried → Type 0
+TriedLeaves b old new a c Taken = TriesLeave b old new a c
+TriedLeaves b old new a c (Next n) =
+    behind_taken (naming b) (program_of (linked b)).clauses (clause_alternatives b old a c) ≡ behind_taken (naming b) (program_of (linked b)).clauses (clause_alternatives b new a n.0)
+TriedLeaves b old new a c Gone = TriesLeave b old new a c
 
 -- where the body of a clause runs
 abbrev pub body_setting : Attempt → ℕ → ℕ → Setting

@@ -81,3 +81,4 @@ pub record GoalHere (b : Library) (old new : Path) (node : ℕ) (a : Active) : T
   pub same : (left : ℕ) → called b new a.node (goal_items b new a) left ≡ called b old node (items_here b old old.f old.pc) left
   pub depth : new.depth ≡ old.depth
   pub width : new.width ≡ old.width
+  pub choices : new.choices ≡ old.choices

@@ -7,3 +7,4 @@ pub mod Throwing
 pub mod Walking
 pub mod Goals
 pub mod Values
+pub mod Untried

@@ -35,7 +35,7 @@ module _ (b : Library) where
   Stays R p left On = R (search_at b p (point_here b p) left)
   Stays R p left Fails = R (search_at b p (Over Failed) left)
   Stays R p left (Halts z) = R (search_at b p (Over (Halted z)) left)
-  Stays R p left (Uncaught t) = (active : List ℕ) × (p.choices.items ≡ []) × R (search_at b p (Over (Thrown t active)) left)
+  Stays R p left (Uncaught t) = (active : List ℕ) × (p.choices.items ≡ []) × R (search_at b p (Over (Thrown t.value active)) left)
 
   -- a configuration turns to where a path stands, whatever the steps left
   abbrev pub Leads : (ℕ → Configuration (language_of b)) → Path → Going → Type 0

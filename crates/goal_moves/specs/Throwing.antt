@@ -71,6 +71,7 @@ pub record Taken (b : Library) (old new : Path) (c : Choice) (ball : Tree ℕ) (
   pub well : IsWell b new
   pub low : new.depth ≤ old.depth
   pub width : new.width ≡ old.width
+  pub choices : new.choices ≡ old.choices
   pub goes : (left : ℕ) (x : Configuration (language_of b)) → Meets b x old c ball at left → Turns (language_of b) x (search_at b new (point_here b new) left)
 
 -- what a record does with a ball

@@ -16,6 +16,7 @@ ghost use Rattle.goal_code.specs.Runs.{goal_of, next_of};
 ghost use Rattle.pl_unify.specs.Code.{code_tree_in};
 ghost use Rattle.goal_moves.specs.Control.{Grew, GoalHere};
 ghost use Rattle.goal_moves.specs.Moves.{goal_items, called, thrown, tried, resumed, IsReady, IsTrying, Moved, Entered, here, IsCode, Activated};
+ghost use Rattle.goal_moves.specs.Untried.{Leaves};
 
 use crate::active::{Active, Rest};
 use crate::branching::{cut_from_code, either_from_code, if_from_code};
@@ -52,6 +53,7 @@ pub fn activate_term(
     requires ready { IsReady library.old path.old active }
     ensures library { OnOk result (library.new ≡ library.old) }
     ensures activated { IfOk result (λ g. Activated library.old path.old path.new (called library.old path.old active.node (goal_items library.old path.old active)) text.old text.new g) }
+    ensures untried { IfOk result (λ g. Leaves library.old path.old path.new (called library.old path.old active.node (goal_items library.old path.old active))) }
 {
     match library.constructs.row(&path.store, active.goal) {
         GoalRow::Commit => Ok(commit(library, path, active)),
@@ -98,6 +100,7 @@ pub fn activate_code(
     requires code { IsCode library.old path.old instruction setting }
     ensures library { OnOk result (library.new ≡ library.old) }
     ensures activated { IfOk result (λ g. Activated library.old path.old path.new (called library.old path.old node (items_here library.old path.old path.old.f path.old.pc)) text.old text.new g) }
+    ensures untried { IfOk result (λ g. Leaves library.old path.old path.new (called library.old path.old node (items_here library.old path.old path.old.f path.old.pc))) }
 {
     match instruction {
         Instruction::Goal { .. } => goal_from_code(

@@ -5,6 +5,7 @@ ghost use Rattle.goal_records.specs.Denotation.{bodies, state_of, items_here};
 ghost use Rattle.goal_records.specs.Well.{IsLibrary, IsWellWith, floor_of};
 ghost use Rattle.goal_moves.specs.Branching.{AtCut, AtEither, AtIf, condition_from};
 ghost use Rattle.goal_moves.specs.Moves.{called, Moved, Entered, here};
+ghost use Rattle.goal_moves.specs.Untried.{Leaves};
 
 use crate::active::Rest;
 use crate::control::{open_here, reaching};
@@ -26,7 +27,8 @@ pub fn cut_from_code(
     requires well { IsWellWith library.now path.old (reverse path.old.choices.items) node }
     requires depth { path.old.depth ≡ node + 1 }
     requires code { AtCut library.now path.old next setting }
-    ensures { Moved library.now path.old path.new (called library.now path.old node (items_here library.now path.old path.old.f path.old.pc)) result }
+    ensures moved { Moved library.now path.old path.new (called library.now path.old node (items_here library.now path.old path.old.f path.old.pc)) result }
+    ensures untried { Leaves library.now path.old path.new (called library.now path.old node (items_here library.now path.old path.old.f path.old.pc)) }
 {
     let _ = library;
     let _ = node;
@@ -50,7 +52,8 @@ pub fn either_from_code(
     requires well { IsWellWith library.now path.old (reverse path.old.choices.items) node }
     requires depth { path.old.depth ≡ node + 1 }
     requires code { AtEither library.now path.old left right setting }
-    ensures { IfOk result (λ g. Moved library.now path.old path.new (called library.now path.old node (items_here library.now path.old path.old.f path.old.pc)) g) }
+    ensures moved { IfOk result (λ g. Moved library.now path.old path.new (called library.now path.old node (items_here library.now path.old path.old.f path.old.pc)) g) }
+    ensures untried { IfOk result (λ g. Leaves library.now path.old path.new (called library.now path.old node (items_here library.now path.old path.old.f path.old.pc))) }
 {
     let _ = library;
     let _frame = path.frames.get(path.f);
@@ -75,7 +78,8 @@ pub fn if_from_code(
     requires well { IsWellWith library.now path.old (reverse path.old.choices.items) node }
     requires depth { path.old.depth ≡ node + 1 }
     requires code { AtIf library.now path.old condition otherwise next setting }
-    ensures { IfOk result (λ g. Moved library.now path.old path.new (called library.now path.old node (items_here library.now path.old path.old.f path.old.pc)) g) }
+    ensures moved { IfOk result (λ g. Moved library.now path.old path.new (called library.now path.old node (items_here library.now path.old path.old.f path.old.pc)) g) }
+    ensures untried { IfOk result (λ g. Leaves library.now path.old path.new (called library.now path.old node (items_here library.now path.old path.old.f path.old.pc))) }
 {
     match otherwise {
         Some(other) => if_then_else(library, path, condition, other, next, setting, node),
@@ -97,7 +101,8 @@ fn if_then_else(
     requires well { IsWellWith library.now path.old (reverse path.old.choices.items) node }
     requires depth { path.old.depth ≡ node + 1 }
     requires code { AtIf library.now path.old condition (Some otherwise) next setting }
-    ensures { IfOk result (λ g. Moved library.now path.old path.new (called library.now path.old node (items_here library.now path.old path.old.f path.old.pc)) g) }
+    ensures moved { IfOk result (λ g. Moved library.now path.old path.new (called library.now path.old node (items_here library.now path.old path.old.f path.old.pc)) g) }
+    ensures untried { IfOk result (λ g. Leaves library.now path.old path.new (called library.now path.old node (items_here library.now path.old path.old.f path.old.pc))) }
 {
     let _ = library;
     let _frame = path.frames.get(path.f);
@@ -120,7 +125,8 @@ fn if_then(
     requires well { IsWellWith library.now path.old (reverse path.old.choices.items) node }
     requires depth { path.old.depth ≡ node + 1 }
     requires code { AtIf library.now path.old condition None next setting }
-    ensures { IfOk result (λ g. Moved library.now path.old path.new (called library.now path.old node (items_here library.now path.old path.old.f path.old.pc)) g) }
+    ensures moved { IfOk result (λ g. Moved library.now path.old path.new (called library.now path.old node (items_here library.now path.old path.old.f path.old.pc)) g) }
+    ensures untried { IfOk result (λ g. Leaves library.now path.old path.new (called library.now path.old node (items_here library.now path.old path.old.f path.old.pc))) }
 {
     let _ = library;
     let _ = node;

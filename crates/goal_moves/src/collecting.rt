@@ -22,6 +22,7 @@ ghost use Rattle.pl_unify.specs.declared.word.Ref.{Ref as Place};
 ghost use Rattle.std.specs.Prelude.{Option};
 ghost use Rattle.goal_moves.specs.declared.going.Going.TheVariants.{Fails};
 ghost use Rattle.goal_moves.specs.Moves.{answering, goal_items, called, thrown, tried, resumed, IsReady, IsTrying, Moved, Entered, here, IsCode, Activated};
+ghost use Rattle.goal_moves.specs.Untried.{Leaves};
 
 use crate::active::{Active, Rest};
 use crate::control::{argument_setting, construct_of, open_here, taken_for_goal};
@@ -49,7 +50,8 @@ pub fn collecting(
     requires library { IsLibrary library.now }
     requires ready { IsReady library.now path.old active }
     requires row { IsRow (naming library.now) (state_of path.old) active.goal (GoalRow.Collecting template goal list) }
-    ensures { IfOk result (λ g. Moved library.now path.old path.new (called library.now path.old active.node (goal_items library.now path.old active)) g) }
+    ensures moved { IfOk result (λ g. Moved library.now path.old path.new (called library.now path.old active.node (goal_items library.now path.old active)) g) }
+    ensures untried { IfOk result (λ g. Leaves library.now path.old path.new (called library.now path.old active.node (goal_items library.now path.old active))) }
 {
     if let Some(ball) = list_fault(library, path, active, list)? {
         return raise(alloc, library, path, ball, active.rest);

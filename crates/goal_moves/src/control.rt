@@ -15,6 +15,7 @@ ghost use Rattle.goal_terms.specs.declared.row.GoalRow.TheVariants as GoalRow;
 ghost use Rattle.goal_moves.specs.declared.control.Named.TheVariants as Named;
 ghost use Rattle.goal_moves.specs.Control.{Grew, OpenedHere, IsNamed, no_atom, Runs, committing, condition_items};
 ghost use Rattle.goal_moves.specs.Moves.{goal_items, called, IsReady, Moved, Entered, here};
+ghost use Rattle.goal_moves.specs.Untried.{Leaves};
 
 use crate::active::{Active, Rest};
 use crate::enter::{enter_goals, enter_part};
@@ -157,7 +158,8 @@ pub fn commit(library: &Library, path: &mut Path, active: Active) -> Going
     requires library { IsLibrary library.now }
     requires ready { IsReady library.now path.old active }
     requires row { IsRow (naming library.now) (state_of path.old) active.goal GoalRow.Commit }
-    ensures { Moved library.now path.old path.new (called library.now path.old active.node (goal_items library.now path.old active)) result }
+    ensures moved { Moved library.now path.old path.new (called library.now path.old active.node (goal_items library.now path.old active)) result }
+    ensures untried { Leaves library.now path.old path.new (called library.now path.old active.node (goal_items library.now path.old active)) }
 {
     let _ = library;
     path.cut(active.setting.depth);
@@ -179,7 +181,8 @@ pub fn if_then_else(
     requires library { IsLibrary library.now }
     requires ready { IsReady library.now path.old active }
     requires row { IsRow (naming library.now) (state_of path.old) active.goal (GoalRow.IfThenElse condition then otherwise) }
-    ensures { IfOk result (λ g. Moved library.now path.old path.new (called library.now path.old active.node (goal_items library.now path.old active)) g) }
+    ensures moved { IfOk result (λ g. Moved library.now path.old path.new (called library.now path.old active.node (goal_items library.now path.old active)) g) }
+    ensures untried { IfOk result (λ g. Leaves library.now path.old path.new (called library.now path.old active.node (goal_items library.now path.old active))) }
 {
     enter_goals(alloc, library, path, otherwise, active.setting, active.rest)?;
     let other = stand_of(path);
@@ -200,7 +203,8 @@ pub fn if_then(
     requires library { IsLibrary library.now }
     requires ready { IsReady library.now path.old active }
     requires row { IsRow (naming library.now) (state_of path.old) active.goal (GoalRow.IfThen condition then) }
-    ensures { IfOk result (λ g. Moved library.now path.old path.new (called library.now path.old active.node (goal_items library.now path.old active)) g) }
+    ensures moved { IfOk result (λ g. Moved library.now path.old path.new (called library.now path.old active.node (goal_items library.now path.old active)) g) }
+    ensures untried { IfOk result (λ g. Leaves library.now path.old path.new (called library.now path.old active.node (goal_items library.now path.old active))) }
 {
     enter_condition(alloc, library, path, active, condition, then)?;
     Ok(Going::On)
@@ -218,7 +222,8 @@ pub fn either(
     requires library { IsLibrary library.now }
     requires ready { IsReady library.now path.old active }
     requires row { IsRow (naming library.now) (state_of path.old) active.goal (GoalRow.Either left right) }
-    ensures { IfOk result (λ g. Moved library.now path.old path.new (called library.now path.old active.node (goal_items library.now path.old active)) g) }
+    ensures moved { IfOk result (λ g. Moved library.now path.old path.new (called library.now path.old active.node (goal_items library.now path.old active)) g) }
+    ensures untried { IfOk result (λ g. Leaves library.now path.old path.new (called library.now path.old active.node (goal_items library.now path.old active))) }
 {
     enter_goals(alloc, library, path, right, active.setting, active.rest)?;
     let other = stand_of(path);
@@ -232,7 +237,8 @@ pub fn repeat(library: &Library, path: &mut Path, active: Active) -> Result<Goin
     requires library { IsLibrary library.now }
     requires ready { IsReady library.now path.old active }
     requires row { IsRow (naming library.now) (state_of path.old) active.goal GoalRow.Repeat }
-    ensures { IfOk result (λ g. Moved library.now path.old path.new (called library.now path.old active.node (goal_items library.now path.old active)) g) }
+    ensures moved { IfOk result (λ g. Moved library.now path.old path.new (called library.now path.old active.node (goal_items library.now path.old active)) g) }
+    ensures untried { IfOk result (λ g. Leaves library.now path.old path.new (called library.now path.old active.node (goal_items library.now path.old active))) }
 {
     let _ = library;
     let again = enter_part(path, Part::Goal(active.goal), active.setting, active.rest)?;
@@ -276,7 +282,8 @@ pub fn negation(
     requires library { IsLibrary library.now }
     requires ready { IsReady library.now path.old active }
     requires row { IsRow (naming library.now) (state_of path.old) active.goal (GoalRow.Negation goal) }
-    ensures { IfOk result (λ g. Moved library.now path.old path.new (called library.now path.old active.node (goal_items library.now path.old active)) g) }
+    ensures moved { IfOk result (λ g. Moved library.now path.old path.new (called library.now path.old active.node (goal_items library.now path.old active)) g) }
+    ensures untried { IfOk result (λ g. Leaves library.now path.old path.new (called library.now path.old active.node (goal_items library.now path.old active))) }
 {
     let taken = taken_for_goal(alloc, library, path, active, goal)?;
     match taken {
@@ -302,7 +309,8 @@ pub fn once(
     requires library { IsLibrary library.now }
     requires ready { IsReady library.now path.old active }
     requires row { IsRow (naming library.now) (state_of path.old) active.goal (GoalRow.Once goal) }
-    ensures { IfOk result (λ g. Moved library.now path.old path.new (called library.now path.old active.node (goal_items library.now path.old active)) g) }
+    ensures moved { IfOk result (λ g. Moved library.now path.old path.new (called library.now path.old active.node (goal_items library.now path.old active)) g) }
+    ensures untried { IfOk result (λ g. Leaves library.now path.old path.new (called library.now path.old active.node (goal_items library.now path.old active))) }
 {
     let taken = taken_for_goal(alloc, library, path, active, goal)?;
     match taken {
@@ -326,7 +334,8 @@ fn run_taken(
     requires library { IsLibrary library.now }
     requires ready { IsReady library.now path.old active }
     requires runs { Runs library.now path.old active setting taken }
-    ensures { IfOk result (λ g. Moved library.now path.old path.new (called library.now path.old active.node (goal_items library.now path.old active)) g) }
+    ensures moved { IfOk result (λ g. Moved library.now path.old path.new (called library.now path.old active.node (goal_items library.now path.old active)) g) }
+    ensures untried { IfOk result (λ g. Leaves library.now path.old path.new (called library.now path.old active.node (goal_items library.now path.old active))) }
 {
     match taken {
         Called::Goal(body) => {
@@ -347,7 +356,8 @@ pub fn calling(
     requires library { IsLibrary library.now }
     requires ready { IsReady library.now path.old active }
     requires row { IsRow (naming library.now) (state_of path.old) active.goal GoalRow.Calling }
-    ensures { IfOk result (λ g. Moved library.now path.old path.new (called library.now path.old active.node (goal_items library.now path.old active)) g) }
+    ensures moved { IfOk result (λ g. Moved library.now path.old path.new (called library.now path.old active.node (goal_items library.now path.old active)) g) }
+    ensures untried { IfOk result (λ g. Leaves library.now path.old path.new (called library.now path.old active.node (goal_items library.now path.old active))) }
 {
     let setting = argument_setting(active.setting, path.depth);
     let taken = taken_for_call(alloc, library, path, active)?;
@@ -458,7 +468,8 @@ pub fn in_module(
     requires library { IsLibrary library.now }
     requires ready { IsReady library.now path.old active }
     requires row { IsRow (naming library.now) (state_of path.old) active.goal (GoalRow.InModule home goal) }
-    ensures { IfOk result (λ g. Moved library.now path.old path.new (called library.now path.old active.node (goal_items library.now path.old active)) g) }
+    ensures moved { IfOk result (λ g. Moved library.now path.old path.new (called library.now path.old active.node (goal_items library.now path.old active)) g) }
+    ensures untried { IfOk result (λ g. Leaves library.now path.old path.new (called library.now path.old active.node (goal_items library.now path.old active))) }
 {
     let named = module_of(library, path, active, home)?;
     match named {
@@ -488,7 +499,8 @@ pub fn from_context(
     requires library { IsLibrary library.now }
     requires ready { IsReady library.now path.old active }
     requires row { IsRow (naming library.now) (state_of path.old) active.goal (GoalRow.FromContext goal context) }
-    ensures { IfOk result (λ g. Moved library.now path.old path.new (called library.now path.old active.node (goal_items library.now path.old active)) g) }
+    ensures moved { IfOk result (λ g. Moved library.now path.old path.new (called library.now path.old active.node (goal_items library.now path.old active)) g) }
+    ensures untried { IfOk result (λ g. Leaves library.now path.old path.new (called library.now path.old active.node (goal_items library.now path.old active))) }
 {
     let named = module_of(library, path, active, context)?;
     match named {
@@ -550,7 +562,8 @@ pub fn throwing(
     requires library { IsLibrary library.now }
     requires ready { IsReady library.now path.old active }
     requires row { IsRow (naming library.now) (state_of path.old) active.goal (GoalRow.Throwing ball) }
-    ensures { IfOk result (λ g. Moved library.now path.old path.new (called library.now path.old active.node (goal_items library.now path.old active)) g) }
+    ensures moved { IfOk result (λ g. Moved library.now path.old path.new (called library.now path.old active.node (goal_items library.now path.old active)) g) }
+    ensures untried { IfOk result (λ g. Leaves library.now path.old path.new (called library.now path.old active.node (goal_items library.now path.old active))) }
 {
     let ball = ball_of(library, path, active, ball)?;
     raise(alloc, library, path, ball, active.rest)
@@ -569,7 +582,8 @@ pub fn catching(
     requires library { IsLibrary library.now }
     requires ready { IsReady library.now path.old active }
     requires row { IsRow (naming library.now) (state_of path.old) active.goal (GoalRow.Catching goal catcher recovery) }
-    ensures { IfOk result (λ g. Moved library.now path.old path.new (called library.now path.old active.node (goal_items library.now path.old active)) g) }
+    ensures moved { IfOk result (λ g. Moved library.now path.old path.new (called library.now path.old active.node (goal_items library.now path.old active)) g) }
+    ensures untried { IfOk result (λ g. Leaves library.now path.old path.new (called library.now path.old active.node (goal_items library.now path.old active))) }
 {
     let (name, _) = construct_of(library, path, active.goal);
     let inner = argument_setting(active.setting, path.depth);

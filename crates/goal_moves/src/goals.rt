@@ -7,6 +7,7 @@ ghost use Rattle.goal_records.specs.Denotation.{items_here};
 ghost use Rattle.goal_records.specs.Well.{IsLibrary, IsWellWith};
 ghost use Rattle.goal_moves.specs.Goals.{IsOfTarget};
 ghost use Rattle.goal_moves.specs.Moves.{goal_items, called, IsReady, IsCode, Activated};
+ghost use Rattle.goal_moves.specs.Untried.{Leaves};
 
 use crate::activation::{activate_term, goal_here};
 use crate::active::Active;
@@ -42,6 +43,7 @@ pub(crate) fn goal_from_code(
     requires plain { instruction ≡ Instruction.Goal (goal_of instruction) (next_of instruction) }
     ensures library { OnOk result (library.new ≡ library.old) }
     ensures activated { IfOk result (λ g. Activated library.old path.old path.new (called library.old path.old node (items_here library.old path.old path.old.f path.old.pc)) text.old text.new g) }
+    ensures untried { IfOk result (λ g. Leaves library.old path.old path.new (called library.old path.old node (items_here library.old path.old path.old.f path.old.pc))) }
 {
     let target = library.targets.get(setting.clause, path.pc);
     if let Some(goal) = value_goal(library, path, instruction, setting, target) {
@@ -69,6 +71,7 @@ fn run_target(
     requires target { IsOfTarget library.old path.old active home.0 target }
     ensures library { OnOk result (library.new ≡ library.old) }
     ensures activated { IfOk result (λ g. Activated library.old path.old path.new (called library.old path.old active.node (goal_items library.old path.old active)) text.old text.new g) }
+    ensures untried { IfOk result (λ g. Leaves library.old path.old path.new (called library.old path.old active.node (goal_items library.old path.old active))) }
 {
     match target {
         Target::Plain(row) => do_row(alloc, library, table, path, active, row, text),

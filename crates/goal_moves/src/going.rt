@@ -7,5 +7,5 @@ pub enum Going {
     On,
     Fails,
     Halts(i64),
-    Uncaught(Term),
+    Uncaught(Box<Term>),
 }

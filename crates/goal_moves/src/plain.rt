@@ -9,6 +9,7 @@ ghost use Rattle.goal_terms.specs.declared.row.GoalRow.TheVariants as GoalRow;
 ghost use Rattle.goal_records.specs.Denotation.{naming, state_of};
 ghost use Rattle.goal_records.specs.Well.{IsLibrary};
 ghost use Rattle.goal_moves.specs.Moves.{goal_items, called, IsReady, Activated};
+ghost use Rattle.goal_moves.specs.Untried.{Leaves};
 
 use crate::active::Active;
 use crate::going::Going;
@@ -37,6 +38,7 @@ pub fn do_row(
     requires row { IsRow (naming library.old) (state_of path.old) active.goal (GoalRow.Plain row) }
     ensures library { OnOk result (library.new ≡ library.old) }
     ensures activated { IfOk result (λ g. Activated library.old path.old path.new (called library.old path.old active.node (goal_items library.old path.old active)) text.old text.new g) }
+    ensures untried { IfOk result (λ g. Leaves library.old path.old path.new (called library.old path.old active.node (goal_items library.old path.old active))) }
 {
     let args = arguments(alloc, &path.store, active.goal)?;
     let caller = active.setting.caller;

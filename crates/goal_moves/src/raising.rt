@@ -13,6 +13,7 @@ ghost use Rattle.goal_records.specs.Well.{IsLibrary, IsWell, IsWellWith, floor_o
 ghost use Rattle.goal_records.specs.declared.choice.ChoiceKind.TheVariants as Kind;
 ghost use Rattle.goal_moves.specs.Moves.{thrown, Moved};
 ghost use Rattle.goal_moves.specs.Throwing.{exits_here, Leads, Wends, Hands, Recovers};
+ghost use Rattle.goal_moves.specs.Untried.{TakesOff};
 
 use crate::activation::next_of;
 use crate::active::Rest;
@@ -58,7 +59,8 @@ pub fn raise(
     requires library { IsLibrary library.now }
     requires well { IsWell library.now path.old }
     requires ball { IsRef (state_of path.old) ball }
-    ensures { IfOk result (λ g. Moved library.now path.old path.new (thrown library.now path.old (canon (tree_at (state_of path.old) ball)) (pops (items_here library.now path.old rest.f rest.pc))) g) }
+    ensures moved { IfOk result (λ g. Moved library.now path.old path.new (thrown library.now path.old (canon (tree_at (state_of path.old) ball)) (pops (items_here library.now path.old rest.f rest.pc))) g) }
+    ensures fewer { IfOk result (λ g. TakesOff path.old path.new) }
 {
     let copy = path.store.copy_out(alloc, ball)?;
     let term = numbered(alloc, &copy)?;
@@ -75,7 +77,8 @@ fn throw(
 ) -> Result<Going, NoMemory>
     requires library { IsLibrary library.now }
     requires well { IsWell library.now path.old }
-    ensures { IfOk result (λ g. Moved library.now path.old path.new (thrown library.now path.old term (exits_here library.now path.old rest)) g) }
+    ensures moved { IfOk result (λ g. Moved library.now path.old path.new (thrown library.now path.old term (exits_here library.now path.old rest)) g) }
+    ensures fewer { IfOk result (λ g. TakesOff path.old path.new) }
 {
     let mut ball = term;
     let mut at = rest;
@@ -89,7 +92,10 @@ fn throw(
             }
         }
     }
-    Ok(Going::Uncaught(ball))
+    match Box::new(alloc, ball) {
+        Ok(ball) => Ok(Going::Uncaught(ball)),
+        Err(_) => Err(NoMemory),
+    }
 }
 
 // Hands a ball to a record that was taken off.

@@ -27,8 +27,9 @@ ghost use Rattle.goal_heads.specs.Heads.{IsNamed};
 ghost use Rattle.goal_model.specs.Environments.{body_place};
 ghost use Rattle.pl_store.specs.Linked.{procedure_at, visible_in};
 ghost use Rattle.pl_store.specs.Rules.{indicator_of as goal_indicator};
-ghost use Rattle.goal_moves.specs.Clauses.{IsProcedureOf, passed_goal, NothingFits, FitsNext, WasTried, body_rest, IsProper};
+ghost use Rattle.goal_moves.specs.Clauses.{IsProcedureOf, passed_goal, NothingFits, FitsNext, WasTried, TriedLeaves, body_rest, IsProper};
 ghost use Rattle.goal_moves.specs.Moves.{goal_items, called, thrown, tried, resumed, IsReady, IsTrying, Moved, Entered, here, IsCode, Activated};
+ghost use Rattle.goal_moves.specs.Untried.{Leaves, TriesLeave};
 
 use crate::active::{Active, Rest};
 use crate::enter::enter_body;
@@ -69,7 +70,8 @@ pub fn call_procedure(
     requires library { IsLibrary library.now }
     requires ready { IsReady library.now path.old active }
     requires row { IsRow (naming library.now) (state_of path.old) active.goal GoalRow.User }
-    ensures { IfOk result (λ g. Moved library.now path.old path.new (called library.now path.old active.node (goal_items library.now path.old active)) g) }
+    ensures moved { IfOk result (λ g. Moved library.now path.old path.new (called library.now path.old active.node (goal_items library.now path.old active)) g) }
+    ensures untried { IfOk result (λ g. Leaves library.now path.old path.new (called library.now path.old active.node (goal_items library.now path.old active))) }
 {
     let (name, arity) = name_and_arity(&path.store, active.goal);
     let lookup = active.setting.lookup;
@@ -93,7 +95,8 @@ fn throw_unknown(
     requires row { IsRow (naming library.now) (state_of path.old) active.goal GoalRow.User }
     requires goal { goal_indicator (tree_at (state_of path.old) active.goal) ≡ Some (record { name = name.0; arity = arity }) }
     requires unseen { visible_in library.now.tables.rows active.setting.lookup.0 (record { name = name.0; arity = arity }) ≡ Nothing }
-    ensures { IfOk result (λ g. Moved library.now path.old path.new (called library.now path.old active.node (goal_items library.now path.old active)) g) }
+    ensures moved { IfOk result (λ g. Moved library.now path.old path.new (called library.now path.old active.node (goal_items library.now path.old active)) g) }
+    ensures untried { IfOk result (λ g. Leaves library.now path.old path.new (called library.now path.old active.node (goal_items library.now path.old active))) }
 {
     let lookup = active.setting.lookup;
     let ball = library
@@ -115,7 +118,8 @@ pub(crate) fn call_clauses(
     requires ready { IsReady library.now path.old active }
     requires row { IsRow (naming library.now) (state_of path.old) active.goal GoalRow.User }
     requires seen { IsProcedureOf library.now path.old active proc.0 }
-    ensures { IfOk result (λ g. Moved library.now path.old path.new (called library.now path.old active.node (goal_items library.now path.old active)) g) }
+    ensures moved { IfOk result (λ g. Moved library.now path.old path.new (called library.now path.old active.node (goal_items library.now path.old active)) g) }
+    ensures untried { IfOk result (λ g. Leaves library.now path.old path.new (called library.now path.old active.node (goal_items library.now path.old active))) }
 {
     let goal = passed(alloc, library, path, active, proc)?;
     let key = key_of(&path.store, goal);
@@ -127,7 +131,7 @@ pub(crate) fn call_clauses(
         setting: body_setting(library, proc, active.setting.context, active.node),
         rest: active.rest,
     };
-    try_from(library, path, attempt, key, first)
+    try_from(library, path, &attempt, key, first)
 }
 
 // The goal as its procedure gets it.
@@ -207,24 +211,26 @@ pub fn try_clauses(
     requires trying { IsTrying library.now path.old attempt first.0 }
     ensures moved { IfOk result (λ g. Moved library.now path.old path.new (tried library.now path.old attempt first.0) g) }
     ensures gone { IfOk result (λ g. g ≡ Fails → path.new.choices ≡ path.old.choices) }
+    ensures untried { IfOk result (λ g. TriesLeave library.now path.old path.new attempt first.0) }
 {
     let key = key_of(&path.store, attempt.goal);
-    try_from(library, path, attempt, key, first)
+    try_from(library, path, &attempt, key, first)
 }
 
 // As `try_clauses`, with what is known of the goal's first argument.
 fn try_from(
     library: &Library,
     path: &mut Path,
-    attempt: Attempt,
+    attempt: &Attempt,
     key: Key,
     first: ClauseId,
 ) -> Result<Going, NoMemory>
     requires library { IsLibrary library.now }
-    requires trying { IsTrying library.now path.old attempt first.0 }
-    requires key { key_view key ≡ goal_key (tree_at (state_of path.old) attempt.goal) }
-    ensures moved { IfOk result (λ g. Moved library.now path.old path.new (tried library.now path.old attempt first.0) g) }
+    requires trying { IsTrying library.now path.old attempt.now first.0 }
+    requires key { key_view key ≡ goal_key (tree_at (state_of path.old) attempt.now.goal) }
+    ensures moved { IfOk result (λ g. Moved library.now path.old path.new (tried library.now path.old attempt.now first.0) g) }
     ensures gone { IfOk result (λ g. g ≡ Fails → path.new.choices ≡ path.old.choices) }
+    ensures untried { IfOk result (λ g. TriesLeave library.now path.old path.new attempt.now first.0) }
 {
     let mut clause = first;
     loop {
@@ -240,14 +246,15 @@ fn try_from(
 fn try_clause(
     library: &Library,
     path: &mut Path,
-    attempt: Attempt,
+    attempt: &Attempt,
     key: Key,
     clause: ClauseId,
 ) -> Result<Tried, NoMemory>
     requires library { IsLibrary library.now }
-    requires trying { IsTrying library.now path.old attempt clause.0 }
-    requires key { key_view key ≡ goal_key (tree_at (state_of path.old) attempt.goal) }
-    ensures { IfOk result (λ t. WasTried library.now path.old path.new attempt clause.0 t) }
+    requires trying { IsTrying library.now path.old attempt.now clause.0 }
+    requires key { key_view key ≡ goal_key (tree_at (state_of path.old) attempt.now.goal) }
+    ensures moved { IfOk result (λ t. WasTried library.now path.old path.new attempt.now clause.0 t) }
+    ensures untried { IfOk result (λ t. TriedLeaves library.now path.old path.new attempt.now clause.0 t) }
 {
     match library.tables.next(clause, key) {
         None => try_last(library, path, attempt, clause),
@@ -259,16 +266,17 @@ fn try_clause(
 fn try_last(
     library: &Library,
     path: &mut Path,
-    attempt: Attempt,
+    attempt: &Attempt,
     clause: ClauseId,
 ) -> Result<Tried, NoMemory>
     requires library { IsLibrary library.now }
-    requires trying { IsTrying library.now path.old attempt clause.0 }
-    requires last { NothingFits library.now path.old attempt clause.0 }
-    ensures { IfOk result (λ t. WasTried library.now path.old path.new attempt clause.0 t) }
+    requires trying { IsTrying library.now path.old attempt.now clause.0 }
+    requires last { NothingFits library.now path.old attempt.now clause.0 }
+    ensures moved { IfOk result (λ t. WasTried library.now path.old path.new attempt.now clause.0 t) }
+    ensures untried { IfOk result (λ t. TriedLeaves library.now path.old path.new attempt.now clause.0 t) }
 {
     let base = path.store.next_var();
-    if !try_clause_head(library, path, attempt, clause)? {
+    if !try_clause_head(library, path, attempt.goal, clause)? {
         return Ok(Tried::Gone);
     }
     take(library, path, attempt, clause, base)?;
@@ -279,18 +287,19 @@ fn try_last(
 fn try_one(
     library: &Library,
     path: &mut Path,
-    attempt: Attempt,
+    attempt: &Attempt,
     clause: ClauseId,
     next: ClauseId,
 ) -> Result<Tried, NoMemory>
     requires library { IsLibrary library.now }
-    requires trying { IsTrying library.now path.old attempt clause.0 }
-    requires next { FitsNext library.now path.old attempt clause.0 next.0 }
-    ensures { IfOk result (λ t. WasTried library.now path.old path.new attempt clause.0 t) }
+    requires trying { IsTrying library.now path.old attempt.now clause.0 }
+    requires next { FitsNext library.now path.old attempt.now clause.0 next.0 }
+    ensures moved { IfOk result (λ t. WasTried library.now path.old path.new attempt.now clause.0 t) }
+    ensures untried { IfOk result (λ t. TriedLeaves library.now path.old path.new attempt.now clause.0 t) }
 {
     let base = path.store.next_var();
     let mark = path.store.mark();
-    if !try_clause_head(library, path, attempt, clause)? {
+    if !try_clause_head(library, path, attempt.goal, clause)? {
         path.store.undo(&mark);
         return Ok(Tried::Next(next));
     }
@@ -314,22 +323,22 @@ fn try_one(
 fn try_clause_head(
     library: &Library,
     path: &mut Path,
-    attempt: Attempt,
+    goal: Ref,
     clause: ClauseId,
 ) -> Result<bool, NoMemory>
     requires library { IsLibrary library.now }
     requires store { IsStore (state_of path.old) }
-    requires goal { IsRef (state_of path.old) attempt.goal }
-    requires fits { IsGoalOf (linked library.now) clause.0 (tree_at (state_of path.old) attempt.goal) }
+    requires goal { IsRef (state_of path.old) goal }
+    requires fits { IsGoalOf (linked library.now) clause.0 (tree_at (state_of path.old) goal) }
     ensures others { path.new ≡ record path.old { store = path.new.store } }
     ensures store { OnOk result (IsStore (state_of path.new)) }
     ensures extends { Extends (state_of path.old) (state_of path.new) }
-    ensures yes { IfOk result (λ yes. yes ≡ true → Took (state_of path.old) (state_of path.new) (tree_at (state_of path.old) attempt.goal) (clause_at (linked library.now) clause.0).clause.head (clause_at (linked library.now) clause.0).clause.width) }
-    ensures no { IfOk result (λ yes. yes ≡ false → mgu ((tree_at (state_of path.old) attempt.goal, raise_by (state_of path.old).next (clause_at (linked library.now) clause.0).clause.head) ∷ []) ≡ Nothing) }
+    ensures yes { IfOk result (λ yes. yes ≡ true → Took (state_of path.old) (state_of path.new) (tree_at (state_of path.old) goal) (clause_at (linked library.now) clause.0).clause.head (clause_at (linked library.now) clause.0).clause.width) }
+    ensures no { IfOk result (λ yes. yes ≡ false → mgu ((tree_at (state_of path.old) goal, raise_by (state_of path.old).next (clause_at (linked library.now) clause.0).clause.head) ∷ []) ≡ Nothing) }
 {
     see_head(library, clause);
     let code = library.codes.get(clause);
-    let taken = try_head(&mut path.store, attempt.goal, &code.head)?;
+    let taken = try_head(&mut path.store, goal, &code.head)?;
     let _next = path.store.next_var();
     Ok(taken)
 }
@@ -347,15 +356,15 @@ fn see_head(library: &Library, clause: ClauseId)
 fn take(
     library: &Library,
     path: &mut Path,
-    attempt: Attempt,
+    attempt: &Attempt,
     clause: ClauseId,
     base: usize,
 ) -> Result<(), NoMemory>
     requires clause { clause.0 < length library.now.codes }
-    requires rest { attempt.rest.f ≤ length path.old.frames }
+    requires rest { attempt.now.rest.f ≤ length path.old.frames }
     requires floor { floor_of (reverse path.old.choices.items) ≤ length path.old.frames }
     requires base { base ≤ (state_of path.old).next }
-    ensures { OnOk result (Entered library.now path.old path.new attempt.rest (here path.new) (body_rest library.now path.old attempt clause.0 base)) }
+    ensures { OnOk result (Entered library.now path.old path.new attempt.now.rest (here path.new) (body_rest library.now path.old attempt.now clause.0 base)) }
 {
     let setting = Setting {
         clause: clause.0,

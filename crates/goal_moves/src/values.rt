@@ -10,6 +10,7 @@ ghost use Rattle.goal_records.specs.Denotation.{bodies, state_of, items_here};
 ghost use Rattle.goal_records.specs.Well.{IsLibrary, IsWellWith};
 ghost use Rattle.goal_moves.specs.Moves.{called, IsCode, Activated};
 ghost use Rattle.goal_moves.specs.Values.{IsPair, DoesBy, IsValueGoal, value_deed, HasPlace};
+ghost use Rattle.goal_moves.specs.Untried.{Leaves};
 
 use crate::activation::{next_of, place_of};
 use crate::going::Going;
@@ -146,7 +147,8 @@ pub(crate) fn do_value_goal(
     requires depth { path.old.depth ≡ node + 1 }
     requires code { IsCode library.now path.old instruction setting }
     requires goal { IsValueGoal library.now path.old instruction setting goal }
-    ensures { IfOk result (λ g. (text : List ℕ) → Activated library.now path.old path.new (called library.now path.old node (items_here library.now path.old path.old.f path.old.pc)) text text g) }
+    ensures activated { IfOk result (λ g. (text : List ℕ) → Activated library.now path.old path.new (called library.now path.old node (items_here library.now path.old path.old.f path.old.pc)) text text g) }
+    ensures untried { IfOk result (λ g. Leaves library.now path.old path.new (called library.now path.old node (items_here library.now path.old path.old.f path.old.pc))) }
 {
     let _ = node;
     let _frame = path.frames.get(path.f);

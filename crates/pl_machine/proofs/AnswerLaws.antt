@@ -1,10 +1,7 @@
 -- An answer of the run.
-use Rattle.std.proofs.Common.{◌≡◌, ℕ, ◌+◌, ◌-◌, List, [], ◌∷◌, ◌++◌, Option, Some, None, refl, sym, ap, ◌∙◌, subst, arith, length, reverse, map}
+use Rattle.std.proofs.Common.{◌≡◌, ℕ, ◌-◌, List, [], ◌∷◌, Option, None, refl, sym, ap, ◌∙◌, subst, length, reverse}
 use Rattle.std.specs.Prelude.{is_some, true}
 use Rattle.pl_terms.specs.Trees.{Tree}
-use Rattle.pl_terms.specs.Order.{texts_of}
-use Rattle.pl_ops.specs.Standard.{standard}
-use Rattle.pl_ops.specs.Tables.{operator}
 use Rattle.pl_unify.specs.declared.word.Ref.{Ref}
 use Rattle.pl_unify.specs.declared.store.Mark.{Mark}
 use Rattle.pl_unify.specs.State.{State, Extends, state_at}

@@ -1,5 +1,5 @@
 -- Machines that go back to the node of their last record.
-use Rattle.std.proofs.Common.{◌≡◌, ℕ, ◌+◌, List, ◌∷◌, refl, sym, ap, ◌∙◌, subst, length, reverse, take}
+use Rattle.std.proofs.Common.{◌≡◌, ℕ, ◌+◌, ◌∷◌, refl, sym, ap, ◌∙◌, subst, length, reverse, take}
 use Rattle.pl_unify.specs.State.{state_at}
 use Rattle.goal_records.specs.declared.choice.Choice.{Choice}
 use Rattle.goal_records.specs.declared.library.Library.{Library}

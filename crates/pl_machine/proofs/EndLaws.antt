@@ -1,8 +1,8 @@
 -- What is known of a search that moves, and of one that has come to its end.
-use Rattle.std.proofs.Common.{◌≡◌, ℕ, ℤ, suc, List, [], ◌∷◌, refl, sym, ap, ◌∙◌, subst}
-use Rattle.std.specs.Prelude.{length, reverse}
+use Rattle.std.proofs.Common.{◌≡◌, ℕ, ℤ, List, [], ◌∷◌, refl, sym, ap, ◌∙◌, subst}
+use Rattle.std.specs.Prelude.{reverse}
 use Rattle.pl_terms.specs.Trees.{Tree}
-use Rattle.search_theory.specs.Search.{Event, Item, Call, Failed, Thrown, Halted, Spent, At, Over, Language, OutcomeOf, FrameOf, PointOf, prepend}
+use Rattle.search_theory.specs.Search.{Event, Item, Call, Failed, Thrown, Halted, Spent, At, Over, Language, OutcomeOf, FrameOf, prepend}
 use Rattle.search_theory.specs.Configurations.{Configuration, Sane, value_of, Turns, Tells}
 use Rattle.search_theory.proofs.TurnLaws.{stands, turn_halted, turn_spent, turn_spent_out, turns_then}
 use Rattle.pl_store.specs.Runs.{program_of}
@@ -20,7 +20,6 @@ use Rattle.goal_moves.specs.declared.standing.Stand.TheVariants as S
 use Rattle.goal_moves.specs.Moves.{Stays}
 use Rattle.goal_moves.proofs.CodeMoves.{first_goal, first_items}
 use Rattle.goal_moves.proofs.PlainLaws.{stays_then}
-use Rattle.prep_report.specs.declared.end.End2.{End2}
 use Rattle.prep_report.specs.declared.end.End2.TheVariants as E
 use Rattle.pl_machine.specs.declared.machine.Machine.{Machine}
 use Rattle.pl_machine.specs.Fronts.{IsFirst, first_at}
@@ -62,7 +61,7 @@ stays_rest b events x p left (Halts z) r so h =
     let told = so_told (language_of b) x y r events h so in
     record { rest = value_of (language_of b) y; stays = (told.0, refl); all = told.1 }
 stays_rest b events x p left (Uncaught t) r so h =
-    let y : Configuration (language_of b) = search_at b p (Over (Thrown t h.0)) left in
+    let y : Configuration (language_of b) = search_at b p (Over (Thrown t.value h.0)) left in
     let told = so_told (language_of b) x y r events h.2 so in
     record { rest = value_of (language_of b) y; stays = (h.0, h.1, (told.0, refl)); all = told.1 }
 

@@ -1,9 +1,9 @@
 -- What stands first on a path, by the frame in which it stands.
-use Rattle.std.proofs.Common.{◌≡◌, ℕ, zero, suc, ◌-◌, ◌<◌, true, List, [], ◌∷◌, Some, None, refl, sym, ap, ◌∙◌, subst, arith, reverse}
+use Rattle.std.proofs.Common.{◌≡◌, ℕ, zero, suc, ◌-◌, ◌<◌, true, [], ◌∷◌, Some, None, refl, sym, ap, ◌∙◌, subst, arith, reverse}
 use Rattle.std.proofs.lemmas.List.{length-reverse}
 use Rattle.pl_unify.specs.declared.word.Ref.{Ref}
 use Rattle.pl_unify.specs.State.{State, IsRef, tree_at}
-use Rattle.search_theory.specs.Search.{Call, Cut, Pop, Fail, At, Over, Failed}
+use Rattle.search_theory.specs.Search.{Cut, Pop, Fail, At, Over, Failed}
 use Rattle.search_theory.specs.Configurations.{Configuration}
 use Rattle.search_theory.proofs.TurnLaws.{turns_then, turns_same, turn_pop, turn_fail}
 use Rattle.goal_model.specs.Table.{Items}

@@ -1,7 +1,6 @@
 -- Machines that stay in order.
 use Rattle.std.proofs.Common.{◌≡◌, ℕ, ◌+◌, ◌^◌, ◌<◌, ◌≤◌, Option, Some, None, true, refl, sym, ap, subst, arith, reverse}
 use Rattle.std.specs.List.{All}
-use Rattle.pl_unify.specs.declared.word.Ref.{Ref}
 use Rattle.pl_unify.specs.State.{Stored, IsStore, Extends}
 use Rattle.goal_records.specs.Denotation.{state_of}
 use Rattle.goal_records.specs.declared.library.Library.{Library}

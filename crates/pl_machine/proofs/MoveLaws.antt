@@ -1,20 +1,18 @@
 -- The parts of moves, by what the moves of a run promise.
-use Rattle.std.proofs.Common.{◌≡◌, ℕ, suc, ◌+◌, ◌^◌, ◌<◌, List, [], ◌∷◌, ◌++◌, Option, Some, None, refl, sym, ap, ◌∙◌, subst, arith, length, map}
-use Rattle.pl_terms.specs.Trees.{Tree}
+use Rattle.std.proofs.Common.{◌≡◌, ℕ, suc, ◌+◌, ◌^◌, ◌<◌, List, [], ◌∷◌, ◌++◌, None, refl, sym, ap, ◌∙◌, subst, arith, length, map}
 use Rattle.pl_terms.specs.Order.{texts_of}
 use Rattle.pl_ops.specs.Standard.{standard}
 use Rattle.pl_ops.specs.Tables.{operator}
-use Rattle.search_theory.specs.Search.{Ans, At, Over, Failed, answers_of}
-use Rattle.search_theory.specs.Configurations.{Configuration, Turns, Tells}
+use Rattle.search_theory.specs.Search.{Ans, At}
+use Rattle.search_theory.specs.Configurations.{Configuration}
 use Rattle.goal_model.specs.Table.{shown}
 use Rattle.goal_records.specs.declared.library.Library.{Library}
 use Rattle.goal_records.specs.declared.path.Path.{Path}
-use Rattle.goal_records.specs.Denotation.{language_of, state_of, template_of, items_here, world_here, point_here, search_at}
+use Rattle.goal_records.specs.Denotation.{language_of, state_of, template_of, items_here, world_here, search_at}
 use Rattle.goal_records.specs.Well.{IsWell}
 use Rattle.goal_moves.specs.declared.going.Going.{Going}
-use Rattle.goal_moves.specs.declared.going.Going.TheVariants.{On, Fails, Halts, Uncaught}
+use Rattle.goal_moves.specs.declared.going.Going.TheVariants.{On, Fails}
 use Rattle.goal_moves.specs.declared.standing.Stand.{Stand}
-use Rattle.goal_moves.specs.declared.standing.Stand.TheVariants as S
 use Rattle.goal_moves.specs.Moves.{Stays, Moved, Activated, answering}
 use Rattle.pl_unify.specs.State.{Extends}
 use Rattle.pl_machine.specs.declared.machine.Machine.{Machine}
@@ -24,8 +22,9 @@ use Rattle.goal_moves.specs.Walking.{Walked}
 use Rattle.pl_machine.specs.declared.moves.Part.TheVariants as P
 use Rattle.pl_machine.specs.Fronts.{first_at}
 use Rattle.pl_machine.specs.Machine.{IsWaiting}
-use Rattle.pl_machine.specs.Parts.{IsSo, StandsSo, Failing, Searching, Answering, Awaits, Acted}
-use Rattle.pl_machine.proofs.EndLaws.{so_turned, stays_so, Rest, stays_rest}
+use Rattle.pl_machine.specs.Parts.{IsSo, StandsSo, Searching, Answering, Awaits, Acted}
+use Rattle.pl_machine.specs.Further.{WentOne}
+use Rattle.pl_machine.proofs.EndLaws.{stays_so, Rest, stays_rest}
 use Rattle.pl_machine.proofs.FrontLaws.{Placed, placed_walked, walked_so}
 use Rattle.pl_machine.proofs.ShownLaws.{text-written, text-answer, answers-written}
 use Rattle.pl_machine.proofs.AnswerLaws.{tells_answer}
@@ -48,7 +47,7 @@ pub went_answer : (old new : Machine) (before after line : List ℕ) (r : Outcom
     → IsWell old.library old.path → old.path.template ≡ None → new.library ≡ old.library → new.path ≡ record old.path { store = new.path.store } → Extends (state_of old.path) (state_of new.path)
     → new.left ≡ old.left → new.going ≡ Fails → new.answers ≡ stopped (old.answers + 1) → after ≡ before ++ line
     → line ≡ answer_shown (operator standard) old.variables.items (map (texts_of old.library.names) (template_of (state_of old.path) old.path.width None))
-    → Answering old r → Went old new before after r
+    → Answering old r → WentOne old new before after r
 went_answer old new before after line r well none library others more left going answers text is so =
     let b : Library = old.library in
     let told = tells_answer b old.path new.path well none others more old.left in
@@ -57,12 +56,15 @@ went_answer old new before after line r well none library others more left going
     let P : Library → ℕ → Type 0 = λ l k. Stays l (λ y. IsSo l y rest.rest) new.path k Fails in
     let there : Stays b (λ y. IsSo b y rest.rest) new.path new.left Fails = subst (P b) (sym left) rest.stays in
     record {
-      events = Ans (template_of (state_of old.path) old.path.width None) ∷ [];
-      rest = rest.rest;
-      remains = remains_of new Fails rest.rest going (subst (λ l. P l new.left) (sym library) there);
-      all = rest.all;
-      text = text ∙ ap (λ l. before ++ l) (is ∙ sym (text-answer old (template_of (state_of old.path) old.path.width None)));
-      answers = answers;
+      went = record {
+        events = Ans (template_of (state_of old.path) old.path.width None) ∷ [];
+        rest = rest.rest;
+        remains = remains_of new Fails rest.rest going (subst (λ l. P l new.left) (sym library) there);
+        all = rest.all;
+        text = text ∙ ap (λ l. before ++ l) (is ∙ sym (text-answer old (template_of (state_of old.path) old.path.width None)));
+        answers = answers;
+      };
+      one = refl;
     }
 
 -- ---- a goal that was activated

@@ -1,5 +1,5 @@
 -- Text that grew, or did not.
-use Rattle.std.proofs.Common.{◌≡◌, ℕ, ◌<◌, ◌≤◌, false, codes, refl, List, [], ◌++◌, sym, ap, ◌∙◌, arith, length, length-append, append-nil}
+use Rattle.std.proofs.Common.{◌≡◌, ℕ, ◌<◌, ◌≤◌, false, codes, refl, List, ◌++◌, ap, ◌∙◌, arith, length, length-append, append-nil}
 use Rattle.std.specs.Prelude.{nat_lt}
 use Rattle.std.proofs.lemmas.Bool.{ltb-false}
 use Rattle.std.proofs.lemmas.List.{nil_from_length}

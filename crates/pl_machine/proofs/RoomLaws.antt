@@ -1,7 +1,6 @@
 -- Machines of which the records alone are others.
-use Rattle.std.proofs.Common.{◌≡◌, ℕ, zero, suc, ◌+◌, ◌≤◌, Bool, true, false, List, [], ◌∷◌, ◌++◌, Option, refl, sym, ap, ◌∙◌, subst, arith, reverse}
+use Rattle.std.proofs.Common.{◌≡◌, ℕ, zero, suc, Bool, true, false, List, [], ◌∷◌, ◌++◌, Option, refl, sym, ap, ◌∙◌, subst, arith, reverse}
 use Rattle.std.specs.Prelude.{nat_lt, if◌then◌else◌}
-use Rattle.std.specs.List.{All}
 use Rattle.std.proofs.lemmas.Bool.{ltb-false}
 use Rattle.std.proofs.lemmas.List.{reverse-append}
 use Rattle.pl_terms.specs.Trees.{Tree}
@@ -47,7 +46,7 @@ module _ (b : Library) (p q : Path) (others : q ≡ record p { choices = q.choic
     same_stays R left On h = subst (λ r. R (search_at b r (point_here b r) left)) (sym others) (subst (over R (point_here b p) left) (sym same) h)
     same_stays R left Fails h = subst (λ r. R (search_at b r (Over Failed) left)) (sym others) (subst (over R (Over Failed) left) (sym same) h)
     same_stays R left (Halts z) h = subst (λ r. R (search_at b r (Over (Halted z)) left)) (sym others) (subst (over R (Over (Halted z)) left) (sym same) h)
-    same_stays R left (Uncaught t) h = (h.0, same ∙ h.1, subst (λ r. R (search_at b r (Over (Thrown t h.0)) left)) (sym others) (subst (over R (Over (Thrown t h.0)) left) (sym same) h.2))
+    same_stays R left (Uncaught t) h = (h.0, same ∙ h.1, subst (λ r. R (search_at b r (Over (Thrown t.value h.0)) left)) (sym others) (subst (over R (Over (Thrown t.value h.0)) left) (sym same) h.2))
 
 -- ---- room for a record
 

@@ -1,5 +1,5 @@
 -- What a run has put, move after move.
-use Rattle.std.proofs.Common.{◌≡◌, ℕ, ◌+◌, ◌^◌, ◌<◌, ◌≤◌, List, [], ◌∷◌, ◌++◌, Option, Result, Ok, Err, OnErr, refl, sym, ap, ◌∙◌, subst, arith, length, append_assoc, append-nil}
+use Rattle.std.proofs.Common.{◌≡◌, ℕ, ◌+◌, ◌^◌, ◌<◌, ◌≤◌, List, [], ◌++◌, Option, Result, Ok, Err, OnErr, refl, sym, ap, ◌∙◌, subst, arith, length, append_assoc, append-nil}
 use Rattle.std.specs.Io.KnownBytes.{Appends}
 use Rattle.pl_terms.specs.Trees.{Tree}
 use Rattle.search_theory.specs.Search.{Event, answers_of}
@@ -46,6 +46,30 @@ none_put m show w few = record {
   puts = λ r h. record { events = []; rest = r; remains = h; all = refl; answers = omega (arith, few); put = subst (Appends w w) (sym (by-nothing show)) (Appends_nothing w) };
 }
 
+-- a further move of which all was put
+pub put_then : (old new next : Machine) (show : Show) (u v w : Option (List ℕ)) (text : List ℕ) (r : Outcomes) → Same old new → (p : Put old new show u v r) → Went new next [] text p.rest → Appends v w (bytes_by show text)
+    → Put old next show u w r
+put_then old new next show u v w text r same p m f = record {
+  events = p.events ++ m.events;
+  rest = m.rest;
+  remains = m.remains;
+  all =
+      p.all
+      ∙ ap (λ (o : Outcomes). let all : Outcomes = record { events = p.events ++ o.events; left = o.left; clauses = o.clauses; ended = o.ended } in all) m.all
+      ∙ ap (λ l. let all : Outcomes = record { events = l; left = m.rest.left; clauses = m.rest.clauses; ended = m.rest.ended } in all) (sym (append_assoc p.events m.events m.rest.events));
+  answers = omega (arith, p.answers, m.answers, answers-append p.events m.events);
+  put =
+      subst (Appends u w) (sym (shown-append old show p.events m.events))
+      (Appends-append u v w (shown_by old show p.events) (shown_by old show m.events) p.put
+      (subst (Appends v w) (ap (bytes_by show) (m.text ∙ text-same old new m.events same)) f));
+}
+
+-- its events stand behind those before it
+pub put_events : (old new next : Machine) (show : Show) (u v w : Option (List ℕ)) (text : List ℕ) (r : Outcomes) (same : Same old new) (p : Put old new show u v r) (m : Went new next [] text p.rest) (f : Appends v w (bytes_by show text))
+    → (put_then old new next show u v w text r same p m f).events ≡ p.events ++ m.events
+unfolding put_then
+put_events old new next show u v w text r same p m f = refl
+
 module _ (old new : Machine) (show : Show) (u v : Option (List ℕ)) (so : SoFar old new show u v) where
   -- what is put of the events that came first, and of the others
   shown_rest : (a b : List (Event (List (Tree ℕ)))) (r : Outcomes) → r.events ≡ a ++ b → shown_by old show r.events ≡ shown_by old show a ++ shown_by old show b
@@ -76,22 +100,7 @@ module _ (old new : Machine) (show : Show) (u v : Option (List ℕ)) (so : SoFar
     pub more_put : (w : Option (List ℕ)) → Same new next → Appends v w (bytes_by show text) → SoFar old next show u w
     more_put w same f = record {
       same = same_then old new next so.same same;
-      puts = λ r h.
-          let p : Put old new show u v r = so.puts r h in
-          let m : Went new next [] text p.rest = went p.rest p.remains in
-          record {
-            events = p.events ++ m.events;
-            rest = m.rest;
-            remains = m.remains;
-            all =
-                p.all
-                ∙ ap (λ (o : Outcomes). let all : Outcomes = record { events = p.events ++ o.events; left = o.left; clauses = o.clauses; ended = o.ended } in all) m.all
-                ∙ ap (λ l. let all : Outcomes = record { events = l; left = m.rest.left; clauses = m.rest.clauses; ended = m.rest.ended } in all) (sym (append_assoc p.events m.events m.rest.events));
-            answers = omega (arith, p.answers, m.answers, answers-append p.events m.events);
-            put =
-                subst (Appends u w) (sym (shown-append old show p.events m.events))
-                (Appends-append u v w (shown_by old show p.events) (shown_by old show m.events) p.put (subst (Appends v w) (moved_bytes p.rest p.remains) f));
-          };
+      puts = λ r h. let p : Put old new show u v r = so.puts r h in put_then old new next show u v w text r so.same p (went p.rest p.remains) f;
     }
 
     -- a move that shows nothing

@@ -1,5 +1,5 @@
 -- The bytes of events.
-use Rattle.std.proofs.Common.{◌≡◌, ℕ, ◌+◌, List, [], ◌∷◌, ◌++◌, refl, sym, ap, ◌∙◌, map, length, append_assoc, append-nil, length-append, arith}
+use Rattle.std.proofs.Common.{◌≡◌, ℕ, ◌+◌, List, [], ◌∷◌, ◌++◌, refl, sym, ap, ◌∙◌, map, length, append_assoc, append-nil, arith}
 use Rattle.std.proofs.lemmas.List.{map-append}
 use Rattle.pl_terms.specs.Trees.{Tree}
 use Rattle.pl_terms.specs.Order.{text_of, texts_of}

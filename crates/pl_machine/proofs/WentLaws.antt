@@ -1,9 +1,8 @@
 -- Machines that went on, one move after the other.
 use Rattle.std.proofs.Common.{◌≡◌, ℕ, ◌+◌, ◌^◌, ◌<◌, true, List, [], ◌++◌, refl, sym, ap, ◌∙◌, subst, arith, length, append_assoc, append-nil, length-append}
 use Rattle.std.proofs.lemmas.List.{nil_from_length}
-use Rattle.pl_terms.specs.Trees.{Tree}
 use Rattle.goal_records.specs.declared.path.Path.{Path}
-use Rattle.search_theory.specs.Search.{Event, answers_of}
+use Rattle.search_theory.specs.Search.{answers_of}
 use Rattle.goal_model.specs.Table.{shown}
 use Rattle.goal_moves.specs.declared.standing.Stand.{Stand}
 use Rattle.prep_report.specs.declared.end.End2.{End2}
@@ -12,10 +11,13 @@ use Rattle.pl_machine.specs.declared.moves.Part.{Part}
 use Rattle.pl_machine.specs.declared.moves.Part.TheVariants as P
 use Rattle.pl_machine.specs.declared.moves.Progress.{Progress}
 use Rattle.pl_machine.specs.declared.moves.Progress.TheVariants as G
+use Rattle.goal_records.specs.Denotation.{point_here}
+use Rattle.pl_machine.specs.Fronts.{first_at}
 use Rattle.pl_machine.specs.Machine.{IsWaiting}
-use Rattle.pl_machine.specs.Moving.{Activates, Stepped, Peaked, Stopped, noted}
+use Rattle.pl_machine.specs.Moving.{Activates, Stepped, Peaked, Stopped, noted, leaves_at, first_leaves}
 use Rattle.pl_machine.specs.Running.{Outcomes, Remains, Same, Went, Goes, Gives, Ended, Ran, text_shown, stopped}
 use Rattle.pl_machine.specs.Parts.{Kept, Did, Awaits, Acted}
+use Rattle.pl_machine.specs.Further.{WentOne}
 use Rattle.pl_machine.proofs.ShownLaws.{text-same}
 use Rattle.pl_machine.proofs.MoveLaws.{waiting_remains, remains_waiting}
 
@@ -53,6 +55,11 @@ went_after a b c t u v r k w = record {
   text = w.text ∙ ap (λ l. l ++ text_shown b w.events) k.text ∙ ap (λ l. t ++ l) (text-same a b w.events k.same);
   answers = w.answers ∙ ap (λ n. stopped (n + length (answers_of w.events))) k.answers;
 }
+
+-- the same where one event was shown
+pub one_after : (a b c : Machine) (t u v : List ℕ) (r : Outcomes) → Kept a b t u → WentOne b c u v r → WentOne a c t v r
+unfolding went_after
+one_after a b c t u v r k w = record { went = went_after a b c t u v r k w.went; one = w.one }
 
 -- one part after others that showed nothing
 pub did_then : (X Y : Outcomes → Type 0) (a b c : Machine) (t u v : List ℕ) (part : Part) → Kept a b t u → ((r : Outcomes) → X r → Y r) → Did Y b c u v part → Did X a c t v part
@@ -144,15 +151,20 @@ stepped_none old new n same = record { activated = λ h. absurd (n h); none = λ
 pub stepped_from : (old mid new : Machine) → mid.left ≡ old.left → (Activates old → Activates mid) → (Activates mid → Activates old) → Stepped mid new → Stepped old new
 stepped_from old mid new same there back s = record { activated = λ h. s.activated (there h) ∙ same; none = λ h. s.none (λ m. h (back m)) ∙ same }
 
-pub peaked_one : (old new : Machine) → Activates old → (after : ℕ) → new.peak ≡ noted old.peak (length old.path.choices.items) after → Peaked old new
-peaked_one old new a after more = record { activated = λ h. (after, more); none = λ h. absurd (h a) }
+-- what stands first is noted by the place before it
+pub first_noted : (m : Machine) (stand : Stand) (peak : ℕ) → first_at m.library m.path stand ≡ point_here m.library m.path
+    → peak ≡ noted m.peak (length m.path.choices.items) (leaves_at m (first_at m.library m.path stand)) → peak ≡ noted m.peak (length m.path.choices.items) (first_leaves m)
+first_noted m stand peak at e = e ∙ ap (λ x. noted m.peak (length m.path.choices.items) (leaves_at m x)) at
+
+pub peaked_one : (old new : Machine) → Activates old → new.peak ≡ noted old.peak (length old.path.choices.items) (first_leaves old) → Peaked old new
+peaked_one old new a more = record { activated = λ h. more; none = λ h. absurd (h a) }
 
 pub peaked_none : (old new : Machine) → (Activates old → ⊥) → new.peak ≡ old.peak → Peaked old new
 peaked_none old new n same = record { activated = λ h. absurd (n h); none = λ h. same }
 
-pub peaked_from : (old mid new : Machine) → mid.peak ≡ old.peak → length mid.path.choices.items ≡ length old.path.choices.items → (Activates old → Activates mid) → (Activates mid → Activates old) → Peaked mid new → Peaked old new
-peaked_from old mid new same records there back s = record {
-  activated = λ h. let more = s.activated (there h) in (more.0, more.1 ∙ ap (λ p. noted p (length mid.path.choices.items) more.0) same ∙ ap (λ k. noted old.peak k more.0) records);
+pub peaked_from : (old mid new : Machine) → mid.peak ≡ old.peak → length mid.path.choices.items ≡ length old.path.choices.items → first_leaves mid ≡ first_leaves old → (Activates old → Activates mid) → (Activates mid → Activates old) → Peaked mid new → Peaked old new
+peaked_from old mid new same records leaves there back s = record {
+  activated = λ h. s.activated (there h) ∙ ap (λ p. noted p (length mid.path.choices.items) (first_leaves mid)) same ∙ ap (λ k. noted old.peak k (first_leaves mid)) records ∙ ap (noted old.peak (length old.path.choices.items)) leaves;
   none = λ h. s.none (λ m. h (back m)) ∙ same;
 }
 

@@ -6,7 +6,7 @@ use Rattle.goal_records.specs.declared.choice.Choice.{Choice}
 use Rattle.goal_records.specs.declared.choice.ChoiceKind.{ChoiceKind}
 use Rattle.goal_records.specs.declared.choice.ChoiceKind.TheVariants.{Collect}
 use Rattle.goal_records.specs.Denotation.{state_of, answers_of, outer_of, outer_answers}
-use Rattle.goal_records.specs.Well.{IsLibrary, IsWell, IsWellWith}
+use Rattle.goal_records.specs.Well.{IsLibrary, IsWellWith}
 use Rattle.pl_machine.specs.declared.machine.Machine.{Machine}
 
 -- a machine inside a move, in a node of this depth: its records are in order for one of the node

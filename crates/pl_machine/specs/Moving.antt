@@ -1,5 +1,8 @@
 -- What a move does.
-use Rattle.std.specs.Prelude.{◌≡◌, ℕ, ◌+◌, ◌<◌, max, nat_lt, false, true, if◌then◌else◌, List, length}
+use Rattle.std.specs.Prelude.{◌≡◌, ℕ, ◌+◌, ◌<◌, max, Bool, false, true, if◌then◌else◌, List, length}
+use Rattle.search_theory.specs.Search.{PointOf}
+use Rattle.goal_records.specs.Denotation.{language_of, point_here, search_at}
+use Rattle.goal_moves.specs.Untried.{leaves_untried}
 use Rattle.pl_machine.specs.declared.machine.Machine.{Machine}
 use Rattle.pl_machine.specs.declared.moves.Progress.{Progress}
 use Rattle.pl_machine.specs.declared.moves.Progress.TheVariants as P
@@ -14,13 +17,20 @@ pub record Stepped (old new : Machine) : Type 0 where
   pub activated : Activates old → new.left + 1 ≡ old.left
   pub none : (Activates old → ⊥) → new.left ≡ old.left
 
--- the peak after an activation: one more than the records before it, where it left more of them
-abbrev pub noted : ℕ → ℕ → ℕ → ℕ
-noted peak before after = if nat_lt before after then max peak (before + 1) else peak
+-- whether the goal that stands first leaves something untried in its node when its first alternative was taken
+abbrev pub leaves_at : (m : Machine) → PointOf (language_of m.library) → Bool
+leaves_at m point = leaves_untried m.library (search_at m.library m.path point m.left)
 
--- the most records that there were is noted where a goal was activated alone
+abbrev pub first_leaves : Machine → Bool
+first_leaves m = leaves_at m (point_here m.library m.path)
+
+-- the peak after an activation: one more than the records before it, where it left something untried
+abbrev pub noted : ℕ → ℕ → Bool → ℕ
+noted peak before leaves = if leaves then max peak (before + 1) else peak
+
+-- the most records that there were is noted where a goal was activated, and there alone
 pub record Peaked (old new : Machine) : Type 0 where
-  pub activated : Activates old → (after : ℕ) × (new.peak ≡ noted old.peak (length old.path.choices.items) after)
+  pub activated : Activates old → new.peak ≡ noted old.peak (length old.path.choices.items) (first_leaves old)
   pub none : (Activates old → ⊥) → new.peak ≡ old.peak
 
 -- what stands after a move

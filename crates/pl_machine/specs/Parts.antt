@@ -1,10 +1,9 @@
 -- What the parts of a move do.
-use Rattle.std.specs.Prelude.{◌≡◌, ℕ, ◌+◌, List, [], ◌++◌}
+use Rattle.std.specs.Prelude.{◌≡◌, ℕ, List, [], ◌++◌}
 use Rattle.search_theory.specs.Search.{At, Over, Failed, PointOf}
 use Rattle.search_theory.specs.Configurations.{Configuration, Sane, value_of}
 use Rattle.goal_model.specs.Table.{shown}
 use Rattle.goal_records.specs.declared.library.Library.{Library}
-use Rattle.goal_records.specs.declared.path.Path.{Path}
 use Rattle.goal_records.specs.Denotation.{language_of, point_here, world_here, search_at}
 use Rattle.goal_moves.specs.declared.standing.Stand.{Stand}
 use Rattle.pl_machine.specs.declared.machine.Machine.{Machine}

@@ -1,5 +1,5 @@
 -- What is left of a run, and what a run is.
-use Rattle.std.specs.Prelude.{◌≡◌, ℕ, ◌+◌, ◌-◌, ◌^◌, min, List, [], ◌∷◌, ◌++◌, map, length}
+use Rattle.std.specs.Prelude.{◌≡◌, ℕ, ◌+◌, ◌-◌, ◌^◌, min, List, [], ◌++◌, map, length}
 use Rattle.pl_terms.specs.Trees.{Tree}
 use Rattle.pl_terms.specs.Order.{text_of}
 use Rattle.pl_ops.specs.Standard.{standard}
@@ -34,6 +34,10 @@ end_of (CutTo c) = E.Exhausted
 end_of (Thrown ball active) = E.Uncaught ball
 end_of (Halted z) = E.Halted z
 end_of Spent = E.Spent
+
+-- a machine with so many steps left
+abbrev pub with_left : Machine → ℕ → Machine
+with_left m left = record m { left = left }
 
 -- the bytes of events
 abbrev pub text_shown : Machine → List (Event (List (Tree ℕ))) → List ℕ

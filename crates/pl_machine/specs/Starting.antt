@@ -17,7 +17,7 @@ use Rattle.goal_moves.specs.declared.going.Going.{Going}
 use Rattle.goal_moves.specs.Moves.{Stays}
 use Rattle.pl_machine.specs.declared.machine.Machine.{Machine}
 use Rattle.pl_machine.specs.Machine.{IsMachine}
-use Rattle.pl_machine.specs.Running.{Remains}
+use Rattle.pl_machine.specs.Running.{Remains, with_left}
 
 -- A machine over a program, to whose table names were added. Its whole run is before it.
 pub record IsStart (l : Linked) (goal : ReadTerm) (steps : ℕ) (m : Machine) : Type 0 where
@@ -27,9 +27,11 @@ pub record IsStart (l : Linked) (goal : ReadTerm) (steps : ℕ) (m : Machine) : 
   pub written : HasNames m.library.names
   pub variables : m.variables.items ≡ goal.names
   pub budget : m.budget ≡ steps
+  pub left : m.left ≡ steps
   pub answers : m.answers ≡ 0
   pub over : m.over ≡ false
   pub remains : Remains m (run_of (naming m.library) nat_eq (program_of (linked m.library)) goal.term steps)
+  pub whole : (left : ℕ) → Remains (with_left m left) (run_of (naming m.library) nat_eq (program_of (linked m.library)) goal.term left)
 
 -- a path on which nothing stands, over a store with the variables of a goal
 pub record IsFresh (p : Path) (goal : Tree ℕ) : Type 0 where

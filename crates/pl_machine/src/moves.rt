@@ -1,13 +1,16 @@
 //! The moves of a machine.
-ghost use Rattle.std.specs.Prelude.{◌≡◌, ◌+◌, ◌<◌, ℕ, List, length, true, false, Some, MatchOption, IfOk, IfSome, OnErr};
+ghost use Rattle.std.specs.Prelude.{◌≡◌, ◌+◌, ◌<◌, ℕ, nat_lt, List, length, true, false, Some, MatchOption, IfOk, IfSome, OnErr};
 ghost use Rattle.goal_frames.specs.Frames.{IsLinked};
 ghost use Rattle.goal_moves.specs.declared.going.Going.TheVariants as G;
 ghost use Rattle.pl_machine.specs.declared.front.Front.TheVariants as F;
 ghost use Rattle.pl_machine.specs.declared.moves.Part.TheVariants as P;
-ghost use Rattle.pl_machine.specs.Fronts.{IsFirst, HasFront};
+ghost use Rattle.pl_machine.specs.declared.moves.Progress.TheVariants as Progress;
+ghost use Rattle.goal_moves.specs.Untried.{has_more};
+ghost use Rattle.pl_machine.specs.Fronts.{IsFirst, HasFront, first_at};
 ghost use Rattle.pl_machine.specs.Machine.{IsMachine, GoalFirst, IsWaiting};
-ghost use Rattle.pl_machine.specs.Moving.{Stepped, Peaked, Stopped, noted};
-ghost use Rattle.pl_machine.specs.Running.{Outcomes, Remains, Gives};
+ghost use Rattle.pl_machine.specs.Moving.{Stepped, Peaked, Stopped, noted, leaves_at, first_leaves};
+ghost use Rattle.pl_machine.specs.Running.{Outcomes, Remains, Gives, with_left};
+ghost use Rattle.pl_machine.specs.Further.{Does, GoesFurther};
 ghost use Rattle.pl_machine.specs.Parts.{Failing, Searching, Answering, Awaits, Did, Acted};
 
 use crate::front::{Front, front_of};
@@ -97,6 +100,7 @@ impl Machine {
         ensures waits { IfSome result (λ stand. IsWaiting self.new (P.Waits stand)) }
         ensures some { IfSome result (λ stand. GoalFirst self.old) }
         ensures none { MatchOption result (GoalFirst self.old → ⊥) (λ _. Unit {0}) }
+        ensures leaves { first_leaves self.new ≡ first_leaves self.old }
     {
         let Going::On = &self.going else {
             return None;
@@ -170,6 +174,8 @@ impl Machine {
         ensures machine { IfOk result (λ p. IsMachine self.new) }
         ensures gives { IfOk result (Gives self.old self.new text.old text.new) }
         ensures over { IfOk result (λ p. self.new.over ≡ self.old.over) }
+        ensures further { IfOk result (GoesFurther self.old self.new text.old text.new) }
+        ensures grew { IfOk result (λ p. p ≡ Progress.Shown → length text.old < length text.new) }
     {
         match self.settle(alloc, text)? {
             Part::Shown => Ok(Progress::Shown),
@@ -195,6 +201,7 @@ impl Machine {
         ensures machine { IfOk result (λ part. IsMachine self.new) }
         ensures waits { IfOk result (λ part. IsWaiting self.new part) }
         ensures did { IfOk result (Did (Remains self.old) self.old self.new text.old text.new) }
+        ensures further { IfOk result (λ part. (left : ℕ) → Does (Remains (with_left self.old left)) (with_left self.old left) (with_left self.new left) text.old text.new part) }
         ensures settled { IfOk result (λ part. part ≡ P.Quiet → ⊥) }
         ensures others { IfOk result (λ part. self.new ≡ record self.old { path = self.new.path; going = self.new.going; answers = self.new.answers }) }
         ensures grew { IfOk result (λ part. part ≡ P.Shown → length text.old < length text.new) }
@@ -214,12 +221,13 @@ impl Machine {
         ensures machine { IfOk result (λ part. IsMachine self.new) }
         ensures waits { IfOk result (λ part. IsWaiting self.new part) }
         ensures did { IfOk result (Did (Remains self.old) self.old self.new text.old text.new) }
+        ensures further { IfOk result (λ part. (left : ℕ) → Does (Remains (with_left self.old left)) (with_left self.old left) (with_left self.new left) text.old text.new part) }
         ensures others { IfOk result (λ part. self.new ≡ record self.old { path = self.new.path; going = self.new.going; answers = self.new.answers }) }
         ensures grew { IfOk result (λ part. part ≡ P.Shown → length text.old < length text.new) }
     {
         match mem::replace(&mut self.going, Going::Fails) {
             Going::Halts(status) => Ok(Part::Ended(End::Halted(status))),
-            Going::Uncaught(ball) => Ok(Part::Ended(End::Uncaught(ball))),
+            Going::Uncaught(ball) => Ok(Part::Ended(End::Uncaught(Box::into_inner(ball)))),
             Going::Fails => self.go_back(alloc),
             Going::On => self.go_on(alloc, text),
         }
@@ -231,6 +239,7 @@ impl Machine {
         ensures machine { IfOk result (λ part. IsMachine self.new) }
         ensures waits { IfOk result (λ part. IsWaiting self.new part) }
         ensures did { IfOk result (λ part. (text : List ℕ) → Did (Failing self.old) self.old self.new text text part) }
+        ensures further { IfOk result (λ part. (left : ℕ) (text : List ℕ) → Does (Failing (with_left self.old left)) (with_left self.old left) (with_left self.new left) text text part) }
         ensures others { IfOk result (λ part. self.new ≡ record self.old { path = self.new.path; going = self.new.going; answers = self.new.answers }) }
         ensures quiet { IfOk result (λ part. part ≡ P.Shown → ⊥) }
     {
@@ -250,6 +259,7 @@ impl Machine {
         ensures machine { IfOk result (λ part. IsMachine self.new) }
         ensures waits { IfOk result (λ part. IsWaiting self.new part) }
         ensures did { IfOk result (Did (Searching self.old) self.old self.new text.old text.new) }
+        ensures further { IfOk result (λ part. (left : ℕ) → Does (Searching (with_left self.old left)) (with_left self.old left) (with_left self.new left) text.old text.new part) }
         ensures others { IfOk result (λ part. self.new ≡ record self.old { path = self.new.path; going = self.new.going; answers = self.new.answers }) }
         ensures grew { IfOk result (λ part. part ≡ P.Shown → length text.old < length text.new) }
     {
@@ -288,6 +298,7 @@ impl Machine {
         ensures machine { IfOk result (λ part. IsMachine self.new) }
         ensures waits { IfOk result (λ part. IsWaiting self.new part) }
         ensures did { IfOk result (Did (Answering self.old) self.old self.new text.old text.new) }
+        ensures further { IfOk result (λ part. (left : ℕ) → Does (Answering (with_left self.old left)) (with_left self.old left) (with_left self.new left) text.old text.new part) }
         ensures others { IfOk result (λ part. self.new ≡ record self.old { path = self.new.path; going = self.new.going; answers = self.new.answers }) }
         ensures grew { IfOk result (λ part. part ≡ P.Shown → length text.old < length text.new) }
     {
@@ -315,10 +326,11 @@ impl Machine {
         requires left { 0 < self.old.left }
         ensures machine { IfOk result (λ shown. IsMachine self.new) }
         ensures acted { IfOk result (λ shown. Acted self.old stand self.new text.old text.new) }
+        ensures further { IfOk result (λ shown. (left : ℕ) → Acted (with_left self.old (left + 1)) stand (with_left self.new left) text.old text.new) }
         ensures quiet { IfOk result (λ shown. shown ≡ false → text.new ≡ text.old) }
         ensures grew { IfOk result (λ shown. shown ≡ true → length text.old < length text.new) }
         ensures step { IfOk result (λ shown. self.new.left + 1 ≡ self.old.left) }
-        ensures peak { IfOk result (λ shown. self.new.peak ≡ noted self.old.peak (length self.old.path.choices.items) (length self.new.path.choices.items)) }
+        ensures peak { IfOk result (λ shown. self.new.peak ≡ noted self.old.peak (length self.old.path.choices.items) (leaves_at self.old (first_at self.old.library self.old.path stand))) }
         ensures over { IfOk result (λ shown. self.new.over ≡ self.old.over) }
     {
         let before = text.as_slice().len();
@@ -336,8 +348,10 @@ impl Machine {
         requires left { 0 < self.old.left }
         ensures machine { IfOk result (λ g. IsMachine self.new) }
         ensures acted { IfOk result (λ g. Acted self.old stand (record self.new { going = g }) text.old text.new) }
+        ensures further { IfOk result (λ g. (left : ℕ) → Acted (with_left self.old (left + 1)) stand (record self.new { going = g; left = left }) text.old text.new) }
         ensures step { IfOk result (λ g. self.new.left + 1 ≡ self.old.left) }
         ensures peak { IfOk result (λ g. self.new.peak ≡ self.old.peak) }
+        ensures untried { IfOk result (λ g. has_more self.old.path self.new.path ≡ leaves_at self.old (first_at self.old.library self.old.path stand)) }
         ensures over { IfOk result (λ g. self.new.over ≡ self.old.over) }
     {
         let node = self.path.depth;
@@ -380,7 +394,7 @@ impl Machine {
     // Notes the records that an activation left, where they are more than the records before it.
     fn note(&mut self, before: usize)
         ensures others { self.new ≡ record self.old { peak = self.new.peak } }
-        ensures peak { self.new.peak ≡ noted self.old.peak before (length self.old.path.choices.items) }
+        ensures peak { self.new.peak ≡ noted self.old.peak before (nat_lt before (length self.old.path.choices.items)) }
     {
         if before < self.path.choices.len() && self.peak <= before {
             self.peak = before + 1;

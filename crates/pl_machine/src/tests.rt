@@ -3,7 +3,7 @@ ghost use Rattle.std.specs.Prelude.{◌≡◌, [], false, true, length, IfOk};
 ghost use Rattle.pl_terms.specs.Occurrence.{from_to};
 ghost use Rattle.pl_machine.specs.Machine.{IsMachine};
 
-use crate::{End, Machine, Progress, Show};
+use crate::{End, Machine, Progress, RunFault, Show};
 use pl_atoms::Bytes;
 use pl_store::Program;
 use pl_terms::{Cell, ReadTerm, Term, TermBuf, VarNames};
@@ -159,6 +159,35 @@ fn runs_to_the_end(rt: HostRuntime) -> Result<(), Fail> {
     assert_eq!(rt; out.bytes(), b"".as_slice());
     assert_eq!(rt; (machine.answers(), machine.steps()), (4, 9));
     assert_eq!(rt; (machine.peak(), machine.choices()), (2, 0));
+    Ok(())
+}
+
+// The steps that a run has taken where its output fails.
+fn steps_at_fault(alloc: Global, machine: &mut Machine, out: &mut MemSink) -> Result<u64, Fail>
+    requires machine { IsMachine machine.old }
+    requires over { machine.old.over ≡ false }
+{
+    match machine.run(alloc, out, Show::Lines) {
+        Err(RunFault::WriteFault) => Ok(machine.steps()),
+        _ => Err(Fail::new("the output holds")),
+    }
+}
+
+/// A call of the output that fails, what was put before it, and the steps taken then.
+type Break = (u64, &'static [u8], u64);
+
+const BREAKS: [Break; 3] = [(0, b"", 2), (1, b"x", 4), (2, b"xy", 4)];
+
+#[test]
+fn a_failed_put_ends_the_run(rt: HostRuntime) -> Result<(), Fail> {
+    for (call, bytes, steps) in BREAKS {
+        let mut machine = writing(rt.alloc())?;
+        let mut fails = CallList::new(rt.alloc());
+        assert!(rt; fails.push(call).is_ok());
+        let mut out = MemSink::new(rt.alloc(), fails);
+        assert_eq!(rt; steps_at_fault(rt.alloc(), &mut machine, &mut out)?, steps);
+        assert_eq!(rt; out.bytes(), bytes);
+    }
     Ok(())
 }
 

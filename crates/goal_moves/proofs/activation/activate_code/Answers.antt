@@ -15,16 +15,16 @@ pub returns-in-Cut-clause-activated : goal.returns-in-Cut-clause-activated
 returns-in-Cut-clause-activated c =
     let b = c.args.library.now in
     let p = c.args.path.now in
-    activated b p c.cut_from_code.new.path (called b p c.args.node (items_here b p p.f p.pc)) c.args.text.now c.cut_from_code.result c.cut_from_code.ensures
+    activated b p c.cut_from_code.new.path (called b p c.args.node (items_here b p p.f p.pc)) c.args.text.now c.cut_from_code.result c.cut_from_code.ensures.moved
 
 pub returns-in-Either-clause-activated : goal.returns-in-Either-clause-activated
 returns-in-Either-clause-activated c =
     let b = c.args.library.now in
     let p = c.args.path.now in
-    IfOk-then c.either_from_code.result c.either_from_code.ensures (λ g m. activated b p c.either_from_code.new.path (called b p c.args.node (items_here b p p.f p.pc)) c.args.text.now g m)
+    IfOk-then c.either_from_code.result c.either_from_code.ensures.moved (λ g m. activated b p c.either_from_code.new.path (called b p c.args.node (items_here b p p.f p.pc)) c.args.text.now g m)
 
 pub returns-in-If-clause-activated : goal.returns-in-If-clause-activated
 returns-in-If-clause-activated c =
     let b = c.args.library.now in
     let p = c.args.path.now in
-    IfOk-then c.if_from_code.result c.if_from_code.ensures (λ g m. activated b p c.if_from_code.new.path (called b p c.args.node (items_here b p p.f p.pc)) c.args.text.now g m)
+    IfOk-then c.if_from_code.result c.if_from_code.ensures.moved (λ g m. activated b p c.if_from_code.new.path (called b p c.args.node (items_here b p p.f p.pc)) c.args.text.now g m)

@@ -15,7 +15,7 @@ pub returns-in-Commit-clause-activated : goal.returns-in-Commit-clause-activated
 returns-in-Commit-clause-activated c =
     let b = c.args.library.now in
     let p = c.args.path.now in
-    activated b p c.commit.new.path (called b p c.args.active.node (goal_items b p c.args.active)) c.args.text.now c.commit.result c.commit.ensures
+    activated b p c.commit.new.path (called b p c.args.active.node (goal_items b p c.args.active)) c.args.text.now c.commit.result c.commit.ensures.moved
 
 pub if_then_else-requires-clause-row : goal.if_then_else-requires-clause-row
 if_then_else-requires-clause-row c =
@@ -26,7 +26,7 @@ pub returns-in-IfThenElse-clause-activated : goal.returns-in-IfThenElse-clause-a
 returns-in-IfThenElse-clause-activated c =
     let b = c.args.library.now in
     let p = c.args.path.now in
-    IfOk-then c.if_then_else.result c.if_then_else.ensures (λ g m. activated b p c.if_then_else.new.path (called b p c.args.active.node (goal_items b p c.args.active)) c.args.text.now g m)
+    IfOk-then c.if_then_else.result c.if_then_else.ensures.moved (λ g m. activated b p c.if_then_else.new.path (called b p c.args.active.node (goal_items b p c.args.active)) c.args.text.now g m)
 
 pub if_then-requires-clause-row : goal.if_then-requires-clause-row
 if_then-requires-clause-row c =
@@ -37,7 +37,7 @@ pub returns-in-IfThen-clause-activated : goal.returns-in-IfThen-clause-activated
 returns-in-IfThen-clause-activated c =
     let b = c.args.library.now in
     let p = c.args.path.now in
-    IfOk-then c.if_then.result c.if_then.ensures (λ g m. activated b p c.if_then.new.path (called b p c.args.active.node (goal_items b p c.args.active)) c.args.text.now g m)
+    IfOk-then c.if_then.result c.if_then.ensures.moved (λ g m. activated b p c.if_then.new.path (called b p c.args.active.node (goal_items b p c.args.active)) c.args.text.now g m)
 
 pub either-requires-clause-row : goal.either-requires-clause-row
 either-requires-clause-row c =
@@ -48,7 +48,7 @@ pub returns-in-Either-clause-activated : goal.returns-in-Either-clause-activated
 returns-in-Either-clause-activated c =
     let b = c.args.library.now in
     let p = c.args.path.now in
-    IfOk-then c.either.result c.either.ensures (λ g m. activated b p c.either.new.path (called b p c.args.active.node (goal_items b p c.args.active)) c.args.text.now g m)
+    IfOk-then c.either.result c.either.ensures.moved (λ g m. activated b p c.either.new.path (called b p c.args.active.node (goal_items b p c.args.active)) c.args.text.now g m)
 
 pub negation-requires-clause-row : goal.negation-requires-clause-row
 negation-requires-clause-row c =
@@ -59,7 +59,7 @@ pub returns-in-Negation-clause-activated : goal.returns-in-Negation-clause-activ
 returns-in-Negation-clause-activated c =
     let b = c.args.library.now in
     let p = c.args.path.now in
-    IfOk-then c.negation.result c.negation.ensures (λ g m. activated b p c.negation.new.path (called b p c.args.active.node (goal_items b p c.args.active)) c.args.text.now g m)
+    IfOk-then c.negation.result c.negation.ensures.moved (λ g m. activated b p c.negation.new.path (called b p c.args.active.node (goal_items b p c.args.active)) c.args.text.now g m)
 
 pub once-requires-clause-row : goal.once-requires-clause-row
 once-requires-clause-row c =
@@ -70,7 +70,7 @@ pub returns-in-Once-clause-activated : goal.returns-in-Once-clause-activated
 returns-in-Once-clause-activated c =
     let b = c.args.library.now in
     let p = c.args.path.now in
-    IfOk-then c.once.result c.once.ensures (λ g m. activated b p c.once.new.path (called b p c.args.active.node (goal_items b p c.args.active)) c.args.text.now g m)
+    IfOk-then c.once.result c.once.ensures.moved (λ g m. activated b p c.once.new.path (called b p c.args.active.node (goal_items b p c.args.active)) c.args.text.now g m)
 
 pub calling-requires-clause-row : goal.calling-requires-clause-row
 calling-requires-clause-row c =
@@ -81,7 +81,7 @@ pub returns-in-Calling-clause-activated : goal.returns-in-Calling-clause-activat
 returns-in-Calling-clause-activated c =
     let b = c.args.library.now in
     let p = c.args.path.now in
-    IfOk-then c.calling.result c.calling.ensures (λ g m. activated b p c.calling.new.path (called b p c.args.active.node (goal_items b p c.args.active)) c.args.text.now g m)
+    IfOk-then c.calling.result c.calling.ensures.moved (λ g m. activated b p c.calling.new.path (called b p c.args.active.node (goal_items b p c.args.active)) c.args.text.now g m)
 
 pub in_module-requires-clause-row : goal.in_module-requires-clause-row
 in_module-requires-clause-row c =
@@ -92,7 +92,7 @@ pub returns-in-InModule-clause-activated : goal.returns-in-InModule-clause-activ
 returns-in-InModule-clause-activated c =
     let b = c.args.library.now in
     let p = c.args.path.now in
-    IfOk-then c.in_module.result c.in_module.ensures (λ g m. activated b p c.in_module.new.path (called b p c.args.active.node (goal_items b p c.args.active)) c.args.text.now g m)
+    IfOk-then c.in_module.result c.in_module.ensures.moved (λ g m. activated b p c.in_module.new.path (called b p c.args.active.node (goal_items b p c.args.active)) c.args.text.now g m)
 
 pub from_context-requires-clause-row : goal.from_context-requires-clause-row
 from_context-requires-clause-row c =
@@ -103,7 +103,7 @@ pub returns-in-FromContext-clause-activated : goal.returns-in-FromContext-clause
 returns-in-FromContext-clause-activated c =
     let b = c.args.library.now in
     let p = c.args.path.now in
-    IfOk-then c.from_context.result c.from_context.ensures (λ g m. activated b p c.from_context.new.path (called b p c.args.active.node (goal_items b p c.args.active)) c.args.text.now g m)
+    IfOk-then c.from_context.result c.from_context.ensures.moved (λ g m. activated b p c.from_context.new.path (called b p c.args.active.node (goal_items b p c.args.active)) c.args.text.now g m)
 
 pub repeat-requires-clause-row : goal.repeat-requires-clause-row
 repeat-requires-clause-row c =
@@ -114,7 +114,7 @@ pub returns-in-Repeat-clause-activated : goal.returns-in-Repeat-clause-activated
 returns-in-Repeat-clause-activated c =
     let b = c.args.library.now in
     let p = c.args.path.now in
-    IfOk-then c.repeat.result c.repeat.ensures (λ g m. activated b p c.repeat.new.path (called b p c.args.active.node (goal_items b p c.args.active)) c.args.text.now g m)
+    IfOk-then c.repeat.result c.repeat.ensures.moved (λ g m. activated b p c.repeat.new.path (called b p c.args.active.node (goal_items b p c.args.active)) c.args.text.now g m)
 
 pub throwing-requires-clause-row : goal.throwing-requires-clause-row
 throwing-requires-clause-row c =
@@ -125,7 +125,7 @@ pub returns-in-Throwing-clause-activated : goal.returns-in-Throwing-clause-activ
 returns-in-Throwing-clause-activated c =
     let b = c.args.library.now in
     let p = c.args.path.now in
-    IfOk-then c.throwing.result c.throwing.ensures (λ g m. activated b p c.throwing.new.path (called b p c.args.active.node (goal_items b p c.args.active)) c.args.text.now g m)
+    IfOk-then c.throwing.result c.throwing.ensures.moved (λ g m. activated b p c.throwing.new.path (called b p c.args.active.node (goal_items b p c.args.active)) c.args.text.now g m)
 
 pub catching-requires-clause-row : goal.catching-requires-clause-row
 catching-requires-clause-row c =
@@ -136,7 +136,7 @@ pub returns-in-Catching-clause-activated : goal.returns-in-Catching-clause-activ
 returns-in-Catching-clause-activated c =
     let b = c.args.library.now in
     let p = c.args.path.now in
-    IfOk-then c.catching.result c.catching.ensures (λ g m. activated b p c.catching.new.path (called b p c.args.active.node (goal_items b p c.args.active)) c.args.text.now g m)
+    IfOk-then c.catching.result c.catching.ensures.moved (λ g m. activated b p c.catching.new.path (called b p c.args.active.node (goal_items b p c.args.active)) c.args.text.now g m)
 
 pub collecting-requires-clause-row : goal.collecting-requires-clause-row
 collecting-requires-clause-row c =
@@ -147,7 +147,7 @@ pub returns-in-Collecting-clause-activated : goal.returns-in-Collecting-clause-a
 returns-in-Collecting-clause-activated c =
     let b = c.args.library.now in
     let p = c.args.path.now in
-    IfOk-then c.collecting.result c.collecting.ensures (λ g m. activated b p c.collecting.new.path (called b p c.args.active.node (goal_items b p c.args.active)) c.args.text.now g m)
+    IfOk-then c.collecting.result c.collecting.ensures.moved (λ g m. activated b p c.collecting.new.path (called b p c.args.active.node (goal_items b p c.args.active)) c.args.text.now g m)
 
 pub call_procedure-requires-clause-row : goal.call_procedure-requires-clause-row
 call_procedure-requires-clause-row c =
@@ -158,7 +158,7 @@ pub returns-in-User-clause-activated : goal.returns-in-User-clause-activated
 returns-in-User-clause-activated c =
     let b = c.args.library.now in
     let p = c.args.path.now in
-    IfOk-then c.call_procedure.result c.call_procedure.ensures (λ g m. activated b p c.call_procedure.new.path (called b p c.args.active.node (goal_items b p c.args.active)) c.args.text.now g m)
+    IfOk-then c.call_procedure.result c.call_procedure.ensures.moved (λ g m. activated b p c.call_procedure.new.path (called b p c.args.active.node (goal_items b p c.args.active)) c.args.text.now g m)
 
 pub do_row-requires-clause-row : goal.do_row-requires-clause-row
 do_row-requires-clause-row c =

@@ -4,7 +4,11 @@ use Rattle.goal_records.specs.declared.choice.ChoiceKind.TheVariants.{Branch}
 use Rattle.goal_moves.specs.Control.{OpenedHere}
 use Rattle.goal_moves.proofs.Steady.{floor_fits}
 use Rattle.goal_moves.proofs.CodeMoves.{frame_there}
-use Rattle.goal_moves.proofs.BranchMoves.{opened_within, opened_floor, opened_base, moved_else_from}
+use Rattle.goal_moves.proofs.BranchMoves.{opened_within, opened_floor, opened_base, moved_else_from, leaves_else_from}
+use Rattle.goal_records.specs.Denotation.{bodies, state_of, items_here}
+use Rattle.goal_moves.specs.Branching.{condition_from}
+use Rattle.goal_moves.specs.Moves.{here}
+use Rattle.goal_moves.proofs.UntriedLaws.{entered_records, opened_more}
 use Rattle.goal_moves.proofs.branching.if_then_else.Goals as goal
 
 pub open_here-requires-clause-place : goal.open_here-requires-clause-place
@@ -27,9 +31,20 @@ pub enter_condition-requires-clause-base : goal.enter_condition-requires-clause-
 enter_condition-requires-clause-base c = opened_base c.args.library.now c.requires.library c.args.path.now (I.If c.requires.code.0 c.args.condition c.requires.code.1 (Some c.args.otherwise) c.args.next) c.args.setting c.requires.code.2 c.get-frame.ensures.linked c.args.node c.requires.well c.requires.depth c.open_here.new.path c.args.otherwise
     (subst (λ r. OpenedHere c.args.path.now c.open_here.new.path Branch r.f r.pc c.args.setting c.args.node) c.at_place-other.ensures c.in_ok-open_here.ensures)
 
-pub returns : goal.returns
-returns c =
+pub returns-clause-moved : goal.returns-clause-moved
+returns-clause-moved c =
     moved_else_from c.args.library.now c.requires.library c.args.path.now c.requires.code.0 c.args.condition c.requires.code.1 (Some c.args.otherwise) c.args.next c.args.setting c.requires.code.2 c.get-frame.ensures.linked
     c.args.node c.requires.well c.requires.depth c.args.otherwise refl c.open_here.new.path c.enter_condition.new.path
     (subst (λ r. OpenedHere c.args.path.now c.open_here.new.path Branch r.f r.pc c.args.setting c.args.node) c.at_place-other.ensures c.in_ok-open_here.ensures)
     (c.in_ok-enter_condition.ensures c.args.library.now)
+
+pub returns-clause-untried : goal.returns-clause-untried
+returns-clause-untried c =
+    let b = c.args.library.now in
+    let p = c.args.path.now in
+    let q = c.open_here.new.path in
+    let s = c.enter_condition.new.path in
+    leaves_else_from b c.requires.library p c.requires.code.0 c.args.condition c.requires.code.1 (Some c.args.otherwise) c.args.next c.args.setting c.requires.code.2 c.get-frame.ensures.linked
+    c.args.node c.requires.well c.requires.depth c.args.otherwise refl s
+    (opened_more p p q s Branch c.at_place-other.result.f c.at_place-other.result.pc c.args.setting c.args.node refl c.in_ok-open_here.ensures
+    (entered_records b q s (record { f = q.f; pc = c.args.next }) (here s) (condition_from (bodies b) (state_of q) c.args.setting q.depth (items_here b q q.f) c.args.next c.args.condition) (c.in_ok-enter_condition.ensures b)))

@@ -1,7 +1,16 @@
 use Rattle.goal_moves.proofs.Steady.{floor_fits}
-use Rattle.goal_moves.proofs.Committing.{IfOk-then}
+use Rattle.goal_moves.proofs.Committing.{IfOk-then, entered_items}
 use Rattle.goal_moves.proofs.TakenMoves.{grown_ready, grown_well}
 use Rattle.goal_moves.proofs.CatchMoves.{caught_well, caught_within, caught_base, exit_well, exit_base, caught_goal_ref, caught_ball_ref, caught_goal, caught_ball}
+use Rattle.std.proofs.Common.{◌∷◌, ◌∙◌, arith, true, false}
+use Rattle.search_theory.specs.Search.{Pop}
+use Rattle.goal_model.specs.Rows.{catching}
+use Rattle.pl_unify.specs.State.{tree_at}
+use Rattle.goal_records.specs.Denotation.{state_of, items_here}
+use Rattle.goal_records.specs.declared.choice.ChoiceKind.TheVariants.{Catch}
+use Rattle.goal_moves.specs.Moves.{here}
+use Rattle.goal_moves.proofs.UntriedLaws.{entered_records, grew_records, opened_length, opened_more, taken_off}
+use Rattle.goal_moves.proofs.UntriedRows.{leaves_row, catch_opens, catch_quiet}
 use Rattle.goal_moves.proofs.control.catching.Goals as goal
 
 pub open_here-requires-clause-place : goal.open_here-requires-clause-place
@@ -31,8 +40,8 @@ enter_goals-requires-clause-floor c = let r = c.enter_part.new.path in floor_fit
 pub enter_goals-requires-clause-base : goal.enter_goals-requires-clause-base
 enter_goals-requires-clause-base c = exit_base c.args.library.now c.args.path.now c.taken_for_goal.new.path c.args.active c.requires.ready c.in_ok-taken.ensures.grew c.construct_of.result.0 c.args.catcher c.args.recovery c.requires.row.1 c.requires.row.2 c.construct_of.ensures.name c.args.path.now.depth c.argument_setting-inner.result c.requires.ready.depth c.argument_setting-inner.ensures c.open_here.new.path c.in_ok-open_here.ensures c.reaching-outer.result c.reaching-outer.ensures c.enter_part.new.path c.in_ok-exit.exit (c.in_ok-exit.ensures c.args.library.now)
 
-pub returns-in_ok-enter_goals-in-Goal : goal.returns-in_ok-enter_goals-in-Goal
-returns-in_ok-enter_goals-in-Goal c = caught_goal c.args.library.now c.args.path.now c.taken_for_goal.new.path c.args.active c.requires.ready c.in_ok-taken.ensures.grew c.construct_of.result.0 c.args.catcher c.args.recovery c.requires.row.1 c.requires.row.2 c.construct_of.ensures.name c.args.path.now.depth c.argument_setting-inner.result c.requires.ready.depth c.argument_setting-inner.ensures c.open_here.new.path c.in_ok-open_here.ensures c.reaching-outer.result c.reaching-outer.ensures c.enter_part.new.path c.in_ok-exit.exit (c.in_ok-exit.ensures c.args.library.now) c.args.goal c.in_ok-taken.taken c.in_ok-taken.ensures.goal c.requires.row.3 c.enter_goals.new.path c.in-Goal.body c.in-Goal.is c.in_ok-enter_goals-in-Goal.ensures
+pub returns-in_ok-enter_goals-in-Goal-clause-moved : goal.returns-in_ok-enter_goals-in-Goal-clause-moved
+returns-in_ok-enter_goals-in-Goal-clause-moved c = caught_goal c.args.library.now c.args.path.now c.taken_for_goal.new.path c.args.active c.requires.ready c.in_ok-taken.ensures.grew c.construct_of.result.0 c.args.catcher c.args.recovery c.requires.row.1 c.requires.row.2 c.construct_of.ensures.name c.args.path.now.depth c.argument_setting-inner.result c.requires.ready.depth c.argument_setting-inner.ensures c.open_here.new.path c.in_ok-open_here.ensures c.reaching-outer.result c.reaching-outer.ensures c.enter_part.new.path c.in_ok-exit.exit (c.in_ok-exit.ensures c.args.library.now) c.args.goal c.in_ok-taken.taken c.in_ok-taken.ensures.goal c.requires.row.3 c.enter_goals.new.path c.in-Goal.body c.in-Goal.is c.in_ok-enter_goals-in-Goal.ensures
 
 pub raise-requires-clause-well : goal.raise-requires-clause-well
 raise-requires-clause-well c = exit_well c.args.library.now c.args.path.now c.taken_for_goal.new.path c.args.active c.requires.ready c.in_ok-taken.ensures.grew c.construct_of.result.0 c.args.catcher c.args.recovery c.requires.row.1 c.requires.row.2 c.construct_of.ensures.name c.args.path.now.depth c.argument_setting-inner.result c.requires.ready.depth c.argument_setting-inner.ensures c.open_here.new.path c.in_ok-open_here.ensures c.reaching-outer.result c.reaching-outer.ensures c.enter_part.new.path c.in_ok-exit.exit (c.in_ok-exit.ensures c.args.library.now)
@@ -40,5 +49,38 @@ raise-requires-clause-well c = exit_well c.args.library.now c.args.path.now c.ta
 pub raise-requires-clause-ball : goal.raise-requires-clause-ball
 raise-requires-clause-ball c = caught_ball_ref c.args.library.now c.args.path.now c.taken_for_goal.new.path c.args.active c.requires.ready c.in_ok-taken.ensures.grew c.construct_of.result.0 c.args.catcher c.args.recovery c.requires.row.1 c.requires.row.2 c.construct_of.ensures.name c.args.path.now.depth c.argument_setting-inner.result c.requires.ready.depth c.argument_setting-inner.ensures c.open_here.new.path c.in_ok-open_here.ensures c.reaching-outer.result c.reaching-outer.ensures c.enter_part.new.path c.in_ok-exit.exit (c.in_ok-exit.ensures c.args.library.now) c.args.goal c.in_ok-taken.taken c.in_ok-taken.ensures.goal c.requires.row.3 c.in-Ball.ball c.in-Ball.is
 
-pub returns-in-Ball : goal.returns-in-Ball
-returns-in-Ball c = IfOk-then c.raise.result c.raise.ensures (λ g m. caught_ball c.args.library.now c.args.path.now c.taken_for_goal.new.path c.args.active c.requires.ready c.in_ok-taken.ensures.grew c.construct_of.result.0 c.args.catcher c.args.recovery c.requires.row.1 c.requires.row.2 c.construct_of.ensures.name c.args.path.now.depth c.argument_setting-inner.result c.requires.ready.depth c.argument_setting-inner.ensures c.open_here.new.path c.in_ok-open_here.ensures c.reaching-outer.result c.reaching-outer.ensures c.enter_part.new.path c.in_ok-exit.exit (c.in_ok-exit.ensures c.args.library.now) c.args.goal c.in_ok-taken.taken c.in_ok-taken.ensures.goal c.requires.row.3 c.raise.new.path c.in-Ball.ball g c.in-Ball.is m)
+pub returns-in-Ball-clause-moved : goal.returns-in-Ball-clause-moved
+returns-in-Ball-clause-moved c = IfOk-then c.raise.result c.raise.ensures.moved (λ g m. caught_ball c.args.library.now c.args.path.now c.taken_for_goal.new.path c.args.active c.requires.ready c.in_ok-taken.ensures.grew c.construct_of.result.0 c.args.catcher c.args.recovery c.requires.row.1 c.requires.row.2 c.construct_of.ensures.name c.args.path.now.depth c.argument_setting-inner.result c.requires.ready.depth c.argument_setting-inner.ensures c.open_here.new.path c.in_ok-open_here.ensures c.reaching-outer.result c.reaching-outer.ensures c.enter_part.new.path c.in_ok-exit.exit (c.in_ok-exit.ensures c.args.library.now) c.args.goal c.in_ok-taken.taken c.in_ok-taken.ensures.goal c.requires.row.3 c.raise.new.path c.in-Ball.ball g c.in-Ball.is m)
+
+pub returns-in_ok-enter_goals-in-Goal-clause-untried : goal.returns-in_ok-enter_goals-in-Goal-clause-untried
+returns-in_ok-enter_goals-in-Goal-clause-untried c =
+    let b = c.args.library.now in
+    let p = c.args.path.now in
+    let a = c.args.active in
+    let q = c.taken_for_goal.new.path in
+    let r = c.open_here.new.path in
+    let s = c.enter_part.new.path in
+    let t = c.enter_goals.new.path in
+    let exit = c.in_ok-exit.exit in
+    leaves_row b p t a (catching (tree_at (state_of p) c.args.goal) (tree_at (state_of p) c.args.catcher) (tree_at (state_of p) c.args.recovery)) true c.requires.row.3
+    (catch_opens b p a q c.args.goal c.in_ok-taken.taken c.in_ok-taken.ensures.goal c.args.catcher c.args.recovery c.in-Goal.body c.in-Goal.is)
+    (opened_more p q r t (Catch c.construct_of.result.0 c.args.catcher c.args.recovery) a.rest.f a.rest.pc c.argument_setting-inner.result a.node
+    (grew_records p q c.in_ok-taken.ensures.grew) c.in_ok-open_here.ensures
+    (entered_records b s t exit (here t) (entered_items b s c.in-Goal.body c.argument_setting-inner.result (items_here b s exit.f exit.pc)) c.in_ok-enter_goals-in-Goal.ensures
+    ∙ entered_records b r s a.rest exit (Pop c.reaching-outer.result.depth ∷ items_here b r a.rest.f a.rest.pc) (c.in_ok-exit.ensures b)))
+
+pub returns-in-Ball-clause-untried : goal.returns-in-Ball-clause-untried
+returns-in-Ball-clause-untried c =
+    let b = c.args.library.now in
+    let p = c.args.path.now in
+    let a = c.args.active in
+    let q = c.taken_for_goal.new.path in
+    let r = c.open_here.new.path in
+    let s = c.enter_part.new.path in
+    let exit = c.in_ok-exit.exit in
+    let more = opened_length p q r s (Catch c.construct_of.result.0 c.args.catcher c.args.recovery) a.rest.f a.rest.pc c.argument_setting-inner.result a.node (grew_records p q c.in_ok-taken.ensures.grew) c.in_ok-open_here.ensures
+    (entered_records b r s a.rest exit (Pop c.reaching-outer.result.depth ∷ items_here b r a.rest.f a.rest.pc) (c.in_ok-exit.ensures b)) in
+    IfOk-then c.raise.result c.raise.ensures.fewer (λ g off.
+    leaves_row b p c.raise.new.path a (catching (tree_at (state_of p) c.args.goal) (tree_at (state_of p) c.args.catcher) (tree_at (state_of p) c.args.recovery)) false c.requires.row.3
+    (catch_quiet b p a q c.args.goal c.in_ok-taken.taken c.in_ok-taken.ensures.goal c.args.catcher c.args.recovery c.in-Ball.ball c.in-Ball.is)
+    (taken_off p s c.raise.new.path (omega (arith, more)) off))

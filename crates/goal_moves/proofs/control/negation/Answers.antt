@@ -1,8 +1,17 @@
-use Rattle.std.proofs.Common.{◌∙◌}
+use Rattle.std.proofs.Common.{◌∙◌, ◌∷◌, true, false}
 use Rattle.goal_moves.proofs.Steady.{floor_fits}
 use Rattle.goal_moves.proofs.Committing.{IfOk-then}
 use Rattle.goal_moves.proofs.TakenMoves.{grown_well, grown_ready, denied_within, denied_well, denied_base, failing_well, failing_ref, failing_base, failing_steady}
 use Rattle.goal_moves.proofs.ArgumentMoves.{goal_ref, ball_ref, negation_goal, negation_ball}
+use Rattle.search_theory.specs.Search.{Fail}
+use Rattle.goal_model.specs.Rows.{negation}
+use Rattle.pl_unify.specs.State.{tree_at}
+use Rattle.goal_records.specs.Denotation.{state_of, items_here}
+use Rattle.goal_records.specs.declared.choice.ChoiceKind.TheVariants.{Branch}
+use Rattle.goal_moves.specs.Control.{committing}
+use Rattle.goal_moves.specs.Moves.{here}
+use Rattle.goal_moves.proofs.UntriedLaws.{entered_records, grew_records, opened_more, same_taken_off}
+use Rattle.goal_moves.proofs.UntriedRows.{leaves_row, negation_opens, negation_quiet}
 use Rattle.goal_moves.proofs.control.negation.Goals as goal
 
 pub open_here-requires-clause-place : goal.open_here-requires-clause-place
@@ -46,8 +55,8 @@ enter_committing-requires-clause-base c =
     let b = c.args.library.now in
     failing_base b c.args.path.now c.taken_for_goal.new.path c.args.active c.requires.ready c.in_ok-taken.ensures.grew c.open_here.new.path c.in_ok-open_here-in-Goal.ensures c.enter_part.new.path c.in_ok-fail-in-Goal.fail (c.in_ok-fail-in-Goal.ensures b)
 
-pub returns-in_ok-enter_committing-in-Goal : goal.returns-in_ok-enter_committing-in-Goal
-returns-in_ok-enter_committing-in-Goal c =
+pub returns-in_ok-enter_committing-in-Goal-clause-moved : goal.returns-in_ok-enter_committing-in-Goal-clause-moved
+returns-in_ok-enter_committing-in-Goal-clause-moved c =
     let b = c.args.library.now in
     negation_goal b c.args.path.now c.taken_for_goal.new.path c.args.active c.requires.ready c.in_ok-taken.ensures.grew c.args.goal c.in_ok-taken.taken c.in_ok-taken.ensures.goal c.open_here.new.path c.enter_part.new.path c.enter_committing.new.path c.in-Goal.body c.in_ok-open_here-in-Goal.ensures c.in_ok-fail-in-Goal.fail (c.in_ok-fail-in-Goal.ensures b) c.requires.row.1 c.in-Goal.is c.in_ok-enter_committing-in-Goal.ensures
 
@@ -58,6 +67,31 @@ pub raise-requires-clause-ball : goal.raise-requires-clause-ball
 raise-requires-clause-ball c =
     ball_ref c.args.library.now c.args.path.now c.taken_for_goal.new.path c.args.active c.requires.ready c.in_ok-taken.ensures.grew c.args.goal c.in_ok-taken.taken c.in_ok-taken.ensures.goal c.in-Ball.ball c.in-Ball.is
 
-pub returns-in-Ball : goal.returns-in-Ball
-returns-in-Ball c =
-    IfOk-then c.raise.result c.raise.ensures (λ g m. negation_ball c.args.library.now c.args.path.now c.taken_for_goal.new.path c.args.active c.requires.ready c.in_ok-taken.ensures.grew c.args.goal c.in_ok-taken.taken c.in_ok-taken.ensures.goal c.raise.new.path c.in-Ball.ball g c.requires.row.1 c.in-Ball.is m)
+pub returns-in-Ball-clause-moved : goal.returns-in-Ball-clause-moved
+returns-in-Ball-clause-moved c =
+    IfOk-then c.raise.result c.raise.ensures.moved (λ g m. negation_ball c.args.library.now c.args.path.now c.taken_for_goal.new.path c.args.active c.requires.ready c.in_ok-taken.ensures.grew c.args.goal c.in_ok-taken.taken c.in_ok-taken.ensures.goal c.raise.new.path c.in-Ball.ball g c.requires.row.1 c.in-Ball.is m)
+
+pub returns-in_ok-enter_committing-in-Goal-clause-untried : goal.returns-in_ok-enter_committing-in-Goal-clause-untried
+returns-in_ok-enter_committing-in-Goal-clause-untried c =
+    let b = c.args.library.now in
+    let p = c.args.path.now in
+    let a = c.args.active in
+    let q = c.taken_for_goal.new.path in
+    let r = c.open_here.new.path in
+    let s = c.enter_part.new.path in
+    let t = c.enter_committing.new.path in
+    let fail = c.in_ok-fail-in-Goal.fail in
+    leaves_row b p t a (negation (tree_at (state_of p) c.args.goal)) true c.requires.row.1 (negation_opens b p a q c.args.goal c.in_ok-taken.taken c.in_ok-taken.ensures.goal c.in-Goal.body c.in-Goal.is)
+    (opened_more p q r t Branch a.rest.f a.rest.pc a.setting a.node
+    (grew_records p q c.in_ok-taken.ensures.grew) c.in_ok-open_here-in-Goal.ensures
+    (entered_records b s t fail (here t) (committing b s a c.in-Goal.body (items_here b s fail.f fail.pc)) c.in_ok-enter_committing-in-Goal.ensures
+    ∙ entered_records b r s a.rest fail (Fail ∷ items_here b r a.rest.f a.rest.pc) (c.in_ok-fail-in-Goal.ensures b)))
+
+pub returns-in-Ball-clause-untried : goal.returns-in-Ball-clause-untried
+returns-in-Ball-clause-untried c =
+    let b = c.args.library.now in
+    let p = c.args.path.now in
+    let q = c.taken_for_goal.new.path in
+    IfOk-then c.raise.result c.raise.ensures.fewer (λ g off.
+    leaves_row b p c.raise.new.path c.args.active (negation (tree_at (state_of p) c.args.goal)) false c.requires.row.1 (negation_quiet b p c.args.active q c.args.goal c.in_ok-taken.taken c.in_ok-taken.ensures.goal c.in-Ball.ball c.in-Ball.is)
+    (same_taken_off p q c.raise.new.path (grew_records p q c.in_ok-taken.ensures.grew) off))

@@ -1,5 +1,5 @@
 use Rattle.goal_moves.proofs.Committing.{IfOk-then}
-use Rattle.goal_moves.proofs.CodeMoves.{activated_here}
+use Rattle.goal_moves.proofs.CodeMoves.{activated_here, leaves_here}
 use Rattle.goal_moves.proofs.TargetLaws.{targets_there, goal_target}
 use Rattle.goal_moves.proofs.goals.goal_from_code.Goals as goal
 
@@ -19,4 +19,8 @@ returns-clause-activated c =
     IfOk-then c.run_target.result c.run_target.ensures.activated (λ g m. activated_here c.args.library.now c.args.path.now c.goal_here.new.path c.run_target.new.path c.args.node c.in_ok-active.active c.args.text.now c.run_target.new.text g c.in_ok-active.ensures.here m)
 
 pub returns-in-Some-clause-activated : goal.returns-in-Some-clause-activated
-returns-in-Some-clause-activated c = IfOk-then c.do_value_goal.result c.do_value_goal.ensures (λ g m. m c.args.text.now)
+returns-in-Some-clause-activated c = IfOk-then c.do_value_goal.result c.do_value_goal.ensures.activated (λ g m. m c.args.text.now)
+
+pub returns-clause-untried : goal.returns-clause-untried
+returns-clause-untried c =
+    IfOk-then c.run_target.result c.run_target.ensures.untried (λ g m. leaves_here c.args.library.now c.args.path.now c.goal_here.new.path c.run_target.new.path c.args.node c.in_ok-active.active c.in_ok-active.ensures.here m)

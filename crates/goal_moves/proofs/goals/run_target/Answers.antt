@@ -12,4 +12,4 @@ pub returns-in-User-Some-clause-activated : goal.returns-in-User-Some-clause-act
 returns-in-User-Some-clause-activated c =
     let b = c.args.library.now in
     let p = c.args.path.now in
-    IfOk-then c.call_clauses.result c.call_clauses.ensures (λ g m. activated b p c.call_clauses.new.path (called b p c.args.active.node (goal_items b p c.args.active)) c.args.text.now g m)
+    IfOk-then c.call_clauses.result c.call_clauses.ensures.moved (λ g m. activated b p c.call_clauses.new.path (called b p c.args.active.node (goal_items b p c.args.active)) c.args.text.now g m)

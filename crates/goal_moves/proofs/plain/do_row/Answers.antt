@@ -1,4 +1,4 @@
-use Rattle.std.proofs.Common.{◌≡◌, ◌∙◌, ℕ, List, sym, ap, subst, map, rules}
+use Rattle.std.proofs.Common.{◌≡◌, ◌∙◌, ℕ, List, sym, ap, subst, map, rules, refl}
 use Rattle.pl_terms.specs.Trees.{Tree}
 use Rattle.pl_terms.specs.Occurrence.{canon}
 use Rattle.pl_unify.specs.State.{tree_at}
@@ -15,6 +15,9 @@ use Rattle.std.proofs.lemmas.Int.{to_z-of_z}
 use Rattle.goal_moves.specs.declared.going.Going.TheVariants.{Halts}
 use Rattle.goal_moves.specs.Moves.{Activated, Moved, called, goal_items, thrown}
 use Rattle.goal_moves.proofs.PlainLaws.{library_same, if_ok, yes-of, no-of, halt-of, error-well, error-of}
+use Rattle.goal_moves.proofs.Committing.{IfOk-then}
+use Rattle.goal_moves.proofs.UntriedLaws.{same_records, same_taken_off}
+use Rattle.goal_moves.proofs.UntriedPlain.{active_leaves}
 use Rattle.goal_moves.proofs.plain.do_row.Goals as goal
 
 pub returns-in-Yes-clause-activated : goal.returns-in-Yes-clause-activated
@@ -92,4 +95,29 @@ returns-in-Error-clause-activated c =
     c.raise.result
     (λ g m. error-of b p (tree_at (state_of p) a.goal) a.setting a.node a.rest.f a.rest.pc c.requires.ready.depth c.requires.ready.well row.0 ts row.2 c.call.new.store c.next_var-store.ensures.store c.args.text.now c.call.new.text c.args.row row.1 c.requires.library.facts.names c.call.new.names kept (map (tree_at (state_of p)) c.as_slice.result.now) given
     c.in-Error.ball c.raise.new.path l c.in_ok-outcome.outcome g c.in-Error.is c.in_ok-outcome.ensures.outcome c.in_ok-outcome.ensures.text same m)
-    c.raise.ensures
+    c.raise.ensures.moved
+
+pub returns-in-Yes-clause-untried : goal.returns-in-Yes-clause-untried
+returns-in-Yes-clause-untried c =
+    let p : Path = c.args.path.now in
+    let new : Path = record p { store = c.call.new.store; f = c.args.active.rest.f; pc = c.args.active.rest.pc } in
+    active_leaves c.args.library.now p c.args.active c.requires.row.0 (listed (arguments_of (tree_at (state_of p) c.args.active.goal))) c.requires.row.2 new (same_records p new refl)
+
+pub returns-in-No-clause-untried : goal.returns-in-No-clause-untried
+returns-in-No-clause-untried c =
+    let p : Path = c.args.path.now in
+    let new : Path = record p { store = c.call.new.store } in
+    active_leaves c.args.library.now p c.args.active c.requires.row.0 (listed (arguments_of (tree_at (state_of p) c.args.active.goal))) c.requires.row.2 new (same_records p new refl)
+
+pub returns-clause-untried : goal.returns-clause-untried
+returns-clause-untried c =
+    let p : Path = c.args.path.now in
+    let new : Path = record p { store = c.call.new.store } in
+    active_leaves c.args.library.now p c.args.active c.requires.row.0 (listed (arguments_of (tree_at (state_of p) c.args.active.goal))) c.requires.row.2 new (same_records p new refl)
+
+pub returns-in-Error-clause-untried : goal.returns-in-Error-clause-untried
+returns-in-Error-clause-untried c =
+    let p : Path = c.args.path.now in
+    let new : Path = c.raise.new.path in
+    IfOk-then c.raise.result c.raise.ensures.fewer (λ g off.
+    active_leaves c.args.library.now p c.args.active c.requires.row.0 (listed (arguments_of (tree_at (state_of p) c.args.active.goal))) c.requires.row.2 new (same_taken_off p (record p { store = c.call.new.store }) new refl off))

@@ -1,7 +1,9 @@
 use Rattle.std.proofs.Common.{◌≡◌, ℕ, ◌-◌, length}
 use Rattle.search_theory.specs.Configurations.{Turns}
-use Rattle.goal_records.specs.Denotation.{linked, language_of, state_of}
+use Rattle.pl_store.specs.Runs.{program_of}
+use Rattle.goal_records.specs.Denotation.{linked, naming, language_of, state_of}
 use Rattle.goal_moves.specs.Moves.{tried, IsTrying}
+use Rattle.goal_moves.specs.Untried.{behind_taken, clause_alternatives}
 use Rattle.goal_moves.proofs.user.try_from.Given as goal
 
 abbrev pub invariant-loop-next : goal.invariant-loop-next
@@ -11,6 +13,8 @@ invariant-loop-next l = record {
   choices : l.path.choices ≡ l.initial.path.choices;
   depth : l.path.depth ≡ l.initial.path.depth;
   width : l.path.width ≡ l.initial.path.width;
+  behind : behind_taken (naming l.library) (program_of (linked l.library)).clauses (clause_alternatives l.library l.initial.path l.attempt l.initial.clause.0)
+      ≡ behind_taken (naming l.library) (program_of (linked l.library)).clauses (clause_alternatives l.library l.path l.attempt l.clause.0);
   goes : (left : ℕ) → Turns (language_of l.library) (tried l.library l.initial.path l.attempt l.initial.clause.0 left) (tried l.library l.path l.attempt l.clause.0 left);
 }
 

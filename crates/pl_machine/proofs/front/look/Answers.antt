@@ -1,4 +1,4 @@
-use Rattle.std.proofs.Common.{◌∙◌, refl, sym}
+use Rattle.std.proofs.Common.{◌∙◌, sym}
 use Rattle.pl_machine.proofs.FrontLaws.{Placed, nothing_front, lower_placed, placed_well, below_it}
 use Rattle.pl_machine.proofs.front.look.Goals as goal
 

@@ -14,7 +14,7 @@ pub returns-in-Ball-clause-begins : goal.returns-in-Ball-clause-begins
 returns-in-Ball-clause-begins c =
     let b = c.args.library.now in
     let p = c.args.path.now in
-    IfOk-then c.raise.result c.raise.ensures (λ g m goal left fresh called.
+    IfOk-then c.raise.result c.raise.ensures.moved (λ g m goal left fresh called.
     raised_begins b p goal fresh c.raise.new.path c.in-Ball.ball g (subst (IsCalled (state_of p) (goal_of (naming b) goal (call_name b) 1)) c.in-Ball.is called) m left)
 
 pub returns-in_ok-enter_goals-in-Goal-clause-begins : goal.returns-in_ok-enter_goals-in-Goal-clause-begins

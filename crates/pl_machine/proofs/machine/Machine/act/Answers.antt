@@ -1,15 +1,13 @@
-use Rattle.std.proofs.Common.{◌≡◌, ◌∙◌, ◌+◌, ◌<◌, refl, sym, ap, subst, arith, List, ℕ, true, length}
+use Rattle.std.proofs.Common.{◌≡◌, ◌∙◌, refl, arith, List, ℕ, true}
 use Rattle.goal_moves.proofs.Committing.{IfOk-then}
 use Rattle.prep_report.specs.declared.end.End2.TheVariants as E
 use Rattle.pl_machine.specs.declared.machine.Machine.{Machine}
-use Rattle.pl_machine.specs.Machine.{GoalFirst}
-use Rattle.pl_machine.specs.Moving.{Activates, Stepped, Peaked}
-use Rattle.pl_machine.specs.Parts.{Acted, Kept}
-use Rattle.pl_machine.specs.Running.{Gives}
+use Rattle.pl_machine.specs.Moving.{Activates}
+use Rattle.pl_machine.specs.Parts.{Acted}
 use Rattle.pl_machine.proofs.EndLaws.{ended_spent}
 use Rattle.pl_machine.proofs.MachineLaws.{over_machine}
 use Rattle.pl_machine.proofs.MoveLaws.{remains_waiting}
-use Rattle.pl_machine.proofs.WentLaws.{kept_none, gives_ended, gives_over, gives_acted, gives_after, quiet_kept, quiet_remains, quiet_left, quiet_peak, stepped_one, stepped_none, peaked_one, peaked_none, stopped_after}
+use Rattle.pl_machine.proofs.WentLaws.{kept_none, gives_ended, gives_over, gives_acted, gives_after, quiet_kept, quiet_remains, quiet_left, quiet_peak, stepped_one, stepped_none, first_noted, peaked_one, peaked_none, stopped_after}
 use Rattle.pl_machine.proofs.machine.Machine.act.Goals as goal
 
 pub returns-then-is_spent : goal.returns-then-is_spent
@@ -38,7 +36,7 @@ returns-then-branch c =
       machine = c.in_ok-activate.ensures.machine;
       gives = gives_acted m l c.args.text.now c.activate.new.text c.args.stand c.requires.waits c.in_ok-activate.ensures.acted;
       step = stepped_one m l acts c.in_ok-activate.ensures.step;
-      peak = peaked_one m l acts (length l.path.choices.items) c.in_ok-activate.ensures.peak;
+      peak = peaked_one m l acts (first_noted m c.args.stand l.peak c.requires.waits.1.2 c.in_ok-activate.ensures.peak);
       stops = (c.in_ok-activate.ensures.grew c.if-branch.true, c.in_ok-activate.ensures.over ∙ c.requires.over);
     }
 
@@ -69,7 +67,7 @@ returns-clause-peak c =
     let l : Machine = c.activate.new.self in
     let n : Machine = c.go_on_quietly.new.self in
     let acts : Activates m = ((c.requires.waits.0, c.requires.waits.1.1), c.is_spent.ensures.left c.if-is_spent.false) in
-    IfOk-then c.go_on_quietly.result c.go_on_quietly.ensures.others (λ p o. peaked_one m n acts (length l.path.choices.items) (quiet_peak m l n o _ c.in_ok-activate.ensures.peak))
+    IfOk-then c.go_on_quietly.result c.go_on_quietly.ensures.others (λ p o. peaked_one m n acts (quiet_peak m l n o _ (first_noted m c.args.stand l.peak c.requires.waits.1.2 c.in_ok-activate.ensures.peak)))
 
 pub returns-clause-stops : goal.returns-clause-stops
 returns-clause-stops c =

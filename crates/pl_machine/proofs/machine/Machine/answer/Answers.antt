@@ -8,28 +8,32 @@ use Rattle.goal_records.specs.Denotation.{state_of, template_of}
 use Rattle.goal_moves.specs.declared.going.Going.TheVariants.{Fails}
 use Rattle.goal_moves.specs.Moves.{answering}
 use Rattle.pl_machine.specs.declared.machine.Machine.{Machine}
+use Rattle.pl_machine.specs.Running.{with_left}
 use Rattle.pl_machine.specs.Shown.{answer_shown}
 use Rattle.pl_machine.proofs.MachineLaws.{answered_machine, none_of}
 use Rattle.pl_machine.proofs.MoveLaws.{remains_of, moved_remains, went_answer}
 use Rattle.pl_machine.proofs.QuietLaws.{line_grows}
 use Rattle.pl_machine.proofs.machine.Machine.answer.Goals as goal
 
-pub returns-in-Some-clause-did : goal.returns-in-Some-clause-did
-returns-in-Some-clause-did c =
-    let m : Machine = c.args.self.now in (
+pub returns-in-Some-clause-further : goal.returns-in-Some-clause-further
+returns-in-Some-clause-further c left =
+    let m : Machine = with_left c.args.self.now left in (
       record { text = refl; same = (refl, refl, refl); answers = refl },
       λ r so. remains_of (record m { path = c.keep_answer.new.path }) Fails r c.requires.going
-          (moved_remains m.library m.path c.keep_answer.new.path (answering m.library m.path) m.left Fails r c.in_ok-keep_answer.ensures.0 so),
+          (moved_remains m.library m.path c.keep_answer.new.path (answering m.library m.path) left Fails r c.in_ok-keep_answer.ensures.0 so),
     )
+
+pub returns-in-Some-clause-did : goal.returns-in-Some-clause-did
+returns-in-Some-clause-did c = returns-in-Some-clause-further c c.args.self.now.left
 
 pub returns-clause-machine : goal.returns-clause-machine
 returns-clause-machine c =
     let few : c.saturating_add-self.result < 2 ^ 64 = omega (arith, c.saturating_add-self.ensures) in
     answered_machine c.args.self.now c.line_of.new.store c.saturating_add-self.result c.requires.machine c.next_var-store.ensures.store c.in_ok-line.ensures.grows.extends few
 
-pub returns-clause-did : goal.returns-clause-did
-returns-clause-did c =
-    let m : Machine = c.args.self.now in
+pub returns-clause-further : goal.returns-clause-further
+returns-clause-further c left =
+    let m : Machine = with_left c.args.self.now left in
     let new : Machine = record m { path = record m.path { store = c.line_of.new.store }; answers = c.saturating_add-self.result } in
     let all : All (λ (v : VarName). v.number < m.path.width) c.as_slice.result.now = subst (λ (vs : List VarName). All (λ (v : VarName). v.number < m.path.width) vs) (sym c.as_slice.ensures.value) c.requires.machine.variables in
     let ts : List (Tree (List ℕ)) = map (texts_of m.library.names) (template_of (state_of m.path) m.path.width None) in
@@ -41,6 +45,11 @@ returns-clause-did c =
           (c.in_ok-extend_from_slice.ensures.ok ∙ ap (λ l. c.args.text.now ++ l) c.as_slice-2.ensures)
           (line ∙ ap (λ (vs : List VarName). answer_shown (operator m.table) vs ts) c.as_slice.ensures.value ∙ ap (λ look. answer_shown look m.variables.items ts) c.requires.machine.table) so,
     )
+
+pub returns-clause-did : goal.returns-clause-did
+returns-clause-did c =
+    let one = returns-clause-further c c.args.self.now.left in
+    (one.0, λ r so. (one.1 r so).went)
 
 pub returns-clause-grew : goal.returns-clause-grew
 returns-clause-grew c e =

@@ -1,6 +1,5 @@
-use Rattle.std.proofs.Common.{◌≡◌, refl, arith}
+use Rattle.std.proofs.Common.{refl, arith}
 use Rattle.std.proofs.lemmas.List.{nil_from_length}
-use Rattle.goal_records.specs.declared.path.Path.{Path}
 use Rattle.pl_machine.specs.declared.machine.Machine.{Machine}
 use Rattle.pl_machine.proofs.BackLaws.{Steps, popped_well, went_back, back_inside}
 use Rattle.pl_machine.proofs.machine.Machine.back.Goals as goal

@@ -1,4 +1,4 @@
-use Rattle.std.proofs.Common.{◌≡◌, refl, sym, subst}
+use Rattle.std.proofs.Common.{◌≡◌, ℕ, refl, sym, subst}
 use Rattle.goal_records.specs.declared.path.Path.{Path}
 use Rattle.goal_moves.specs.declared.going.Going.TheVariants.{On, Fails}
 use Rattle.goal_moves.specs.Walking.{Walked}
@@ -7,11 +7,13 @@ use Rattle.goal_moves.proofs.WalkLaws.{IsCut, walked_then, walked_cut}
 use Rattle.pl_machine.specs.declared.machine.Machine.{Machine}
 use Rattle.pl_machine.specs.declared.moves.Part.TheVariants as P
 use Rattle.pl_machine.specs.Machine.{IsMachine}
-use Rattle.pl_machine.specs.Parts.{Searching, Answering, Kept, Did}
+use Rattle.pl_machine.specs.Running.{with_left}
+use Rattle.pl_machine.specs.Parts.{Searching, Answering, Did}
+use Rattle.pl_machine.proofs.FurtherLaws.{does_then}
 use Rattle.pl_machine.proofs.FrontLaws.{Placed, placed_walked, walked_exit, failed_first, walked_so}
 use Rattle.pl_machine.proofs.MachineLaws.{placed_machine, walked_machine}
 use Rattle.pl_machine.proofs.MoveLaws.{remains_of, remains_waiting, walked_remains, nothing_answers}
-use Rattle.pl_machine.proofs.WentLaws.{did_then, kept_none}
+use Rattle.pl_machine.proofs.WentLaws.{did_then}
 use Rattle.pl_machine.proofs.machine.Machine.go_on.Goals as goal
 
 pub answer-requires-clause-machine : goal.answer-requires-clause-machine
@@ -24,13 +26,15 @@ returns-in-Goal c =
     let placed : Placed m.library m.path q = record { others = c.front_of.ensures.others; items = c.front_of.ensures.items } in
     let walked : Walked m.library m.path q = placed_walked m.library m.path q c.requires.machine.well placed in
     let new : Machine = record m { path = q; going = On } in
+    let did : (left : ℕ) → Did (Searching (with_left m left)) (with_left m left) (with_left new left) c.args.text.now c.args.text.now (P.Waits c.in-Goal.stand) = λ left. (
+      record { text = refl; same = (refl, refl, refl); answers = refl },
+      λ r so. remains_waiting (with_left new left) c.in-Goal.stand r (refl, c.in-Goal.ensures.front) (walked_remains (with_left m left) q On r refl walked so),
+    ) in
     record {
       machine = walked_machine m q On c.requires.machine walked;
       waits = (refl, c.in-Goal.ensures.front);
-      did = (
-        record { text = refl; same = (refl, refl, refl); answers = refl },
-        λ r so. remains_waiting new c.in-Goal.stand r (refl, c.in-Goal.ensures.front) (walked_remains m q On r refl walked so),
-      );
+      did = did m.left;
+      further = did;
       others = refl;
       grew = λ e. cc;
     }
@@ -52,14 +56,15 @@ returns-in-Cut c =
     let walked : Walked b m.path last = walked_then b m.path q last first (walked_cut b q c.cut.new.self c.in-Cut.depth c.in-Cut.rest.f c.in-Cut.rest.pc first.well cut c.in-Cut.ensures.front) in
     let new : Machine = record m { path = last; going = On } in
     let is : c.stand_at.new.self ≡ new = c.stand_at.ensures in
-    let did : Did (Searching m) m new c.args.text.now c.args.text.now P.Quiet = (
+    let did : (left : ℕ) → Did (Searching (with_left m left)) (with_left m left) (with_left new left) c.args.text.now c.args.text.now P.Quiet = λ left. (
       record { text = refl; same = (refl, refl, refl); answers = refl },
-      λ r so. walked_remains m last On r refl walked so,
+      λ r so. walked_remains (with_left m left) last On r refl walked so,
     ) in
     record {
       machine = subst IsMachine (sym is) (walked_machine m last On c.requires.machine walked);
       waits = tt;
-      did = subst (λ n. Did (Searching m) m n c.args.text.now c.args.text.now P.Quiet) (sym is) did;
+      did = subst (λ n. Did (Searching m) m n c.args.text.now c.args.text.now P.Quiet) (sym is) (did m.left);
+      further = λ left. subst (λ n. Did (Searching (with_left m left)) (with_left m left) (with_left n left) c.args.text.now c.args.text.now P.Quiet) (sym is) (did left);
       others = subst (λ (n : Machine). n ≡ record m { path = n.path; going = n.going; answers = n.answers }) (sym is) refl;
       grew = λ e. cc;
     }
@@ -75,14 +80,15 @@ returns-in-Exit c =
     let walked : Walked b m.path last = walked_then b m.path q last first (walked_exit b q c.in-Exit.field-0 c.in-Exit.rest.f c.in-Exit.rest.pc first.well c.in-Exit.ensures.front) in
     let new : Machine = record m { path = last; going = On } in
     let is : c.stand_at-in-Exit.new.self ≡ new = c.stand_at-in-Exit.ensures in
-    let did : Did (Searching m) m new c.args.text.now c.args.text.now P.Quiet = (
+    let did : (left : ℕ) → Did (Searching (with_left m left)) (with_left m left) (with_left new left) c.args.text.now c.args.text.now P.Quiet = λ left. (
       record { text = refl; same = (refl, refl, refl); answers = refl },
-      λ r so. walked_remains m last On r refl walked so,
+      λ r so. walked_remains (with_left m left) last On r refl walked so,
     ) in
     record {
       machine = subst IsMachine (sym is) (walked_machine m last On c.requires.machine walked);
       waits = tt;
-      did = subst (λ n. Did (Searching m) m n c.args.text.now c.args.text.now P.Quiet) (sym is) did;
+      did = subst (λ n. Did (Searching m) m n c.args.text.now c.args.text.now P.Quiet) (sym is) (did m.left);
+      further = λ left. subst (λ n. Did (Searching (with_left m left)) (with_left m left) (with_left n left) c.args.text.now c.args.text.now P.Quiet) (sym is) (did left);
       others = subst (λ (n : Machine). n ≡ record m { path = n.path; going = n.going; answers = n.answers }) (sym is) refl;
       grew = λ e. cc;
     }
@@ -94,13 +100,16 @@ returns-in-Fail c =
     let q : Path = c.front_of.new.path in
     let placed : Placed b m.path q = record { others = c.front_of.ensures.others; items = c.front_of.ensures.items } in
     let walked : Walked b m.path q = placed_walked b m.path q c.requires.machine.well placed in
+    let new : Machine = record m { path = q } in
+    let did : (left : ℕ) → Did (Searching (with_left m left)) (with_left m left) (with_left new left) c.args.text.now c.args.text.now P.Quiet = λ left. (
+      record { text = refl; same = (refl, refl, refl); answers = refl },
+      λ r so. remains_of (with_left new left) Fails r c.requires.going (failed_first b q c.in-Fail.ensures.front.0 left r c.in-Fail.ensures.front.1 (walked_so b m.path q left r walked so)),
+    ) in
     record {
       machine = placed_machine m q c.requires.machine placed;
       waits = tt;
-      did = (
-        record { text = refl; same = (refl, refl, refl); answers = refl },
-        λ r so. remains_of (record m { path = q }) Fails r c.requires.going (failed_first b q c.in-Fail.ensures.front.0 m.left r c.in-Fail.ensures.front.1 (walked_so b m.path q m.left r walked so)),
-      );
+      did = did m.left;
+      further = did;
       others = refl;
       grew = λ e. cc;
     }
@@ -118,3 +127,18 @@ returns-in-Nothing-clause-did c =
     (record { text = refl; same = (refl, refl, refl); answers = refl })
     (λ r so. nothing_answers mid r c.in-Nothing.ensures.front (walked_so b m.path q m.left r walked so))
     d)
+
+pub returns-in-Nothing-clause-further : goal.returns-in-Nothing-clause-further
+returns-in-Nothing-clause-further c =
+    let m : Machine = c.args.self.now in
+    let b = m.library in
+    let q : Path = c.front_of.new.path in
+    let placed : Placed b m.path q = record { others = c.front_of.ensures.others; items = c.front_of.ensures.items } in
+    let walked : Walked b m.path q = placed_walked b m.path q c.requires.machine.well placed in
+    IfOk-then c.answer.result c.answer.ensures.further (λ part d left.
+    let old : Machine = with_left m left in
+    let mid : Machine = record old { path = q } in
+    does_then (Searching old) (Answering mid) old mid (with_left c.answer.new.self left) c.args.text.now c.args.text.now c.answer.new.text part
+    (record { text = refl; same = (refl, refl, refl); answers = refl })
+    (λ r so. nothing_answers mid r c.in-Nothing.ensures.front (walked_so b m.path q left r walked so))
+    (d left))

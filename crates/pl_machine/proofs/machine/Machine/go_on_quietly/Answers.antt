@@ -1,4 +1,4 @@
-use Rattle.std.proofs.Common.{◌≡◌, ◌∙◌, refl, sym, ap, subst, arith, List, ℕ, false}
+use Rattle.std.proofs.Common.{◌∙◌, refl, ap, subst, List, ℕ}
 use Rattle.prep_report.specs.declared.end.End2.TheVariants as E
 use Rattle.pl_machine.specs.declared.machine.Machine.{Machine}
 use Rattle.pl_machine.specs.declared.moves.Part.TheVariants as P

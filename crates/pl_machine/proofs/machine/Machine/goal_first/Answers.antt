@@ -1,8 +1,9 @@
-use Rattle.std.proofs.Common.{◌≡◌, refl, ap}
+use Rattle.std.proofs.Common.{◌≡◌, ap}
 use Rattle.goal_records.specs.declared.path.Path.{Path}
 use Rattle.goal_moves.specs.declared.going.Going.TheVariants.{On}
 use Rattle.pl_machine.specs.declared.machine.Machine.{Machine}
 use Rattle.pl_machine.proofs.FrontLaws.{Placed, calls_placed, calls_there, uncalled}
+use Rattle.pl_machine.proofs.PeakLaws.{placed_leaves}
 use Rattle.pl_machine.proofs.MachineLaws.{placed_machine}
 use Rattle.pl_machine.proofs.MoveLaws.{placed_remains}
 use Rattle.pl_machine.proofs.machine.Machine.goal_first.Goals as goal
@@ -20,6 +21,7 @@ returns-in-Goal c =
       waits = (on, c.in-Goal.ensures.front);
       some = (on, calls_placed m.library m.path q placed c.in-Goal.ensures.front.1);
       none = tt;
+      leaves = placed_leaves m q placed;
     }
 
 pub returns-in_default-front_of : goal.returns-in_default-front_of
@@ -35,4 +37,5 @@ returns-in_default-front_of c =
       waits = tt;
       some = tt;
       none = λ h. uncalled m.library q c.front_of.result c.front_of.ensures.front c.in_default-front_of.not-Goal (calls_there m.library m.path q placed h.1);
+      leaves = placed_leaves m q placed;
     }

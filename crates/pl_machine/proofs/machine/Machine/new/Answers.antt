@@ -38,6 +38,7 @@ returns c =
     ap (λ (x : State). tree_at x c.in_ok-term.term) bare.store ∙ made_tree c.new-store.result.state goal (tree_at c.load.new.self.state c.in_ok-term.term) c.new-store.ensures.empty.1 c.in_ok-term.ensures.tree in
     let wide : c.start.new.path.width ≡ length (variables goal) = c.in_ok-going.ensures.width ∙ fresh.width in
     let depth : p.depth ≡ 0 = bare.depth in
+    let whole = λ (left : ℕ). subst (λ t. IsFresh p t → Begins b c.start.new.path t left c.in_ok-going.going) tree (c.in_ok-going.ensures.begins left) fresh in
     record {
       machine = record {
         library = c.in_ok-library.ensures.library;
@@ -54,7 +55,9 @@ returns c =
       written = c.in_ok-library.ensures.written;
       variables = c.in_ok-variables.ensures ∙ c.as_slice.ensures;
       budget = refl;
+      left = refl;
       answers = refl;
       over = refl;
-      remains = subst (λ t. IsFresh p t → Begins b c.start.new.path t c.args.budget c.in_ok-going.going) tree (c.in_ok-going.ensures.begins c.args.budget) fresh;
+      remains = whole c.args.budget;
+      whole = whole;
     }

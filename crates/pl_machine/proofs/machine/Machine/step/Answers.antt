@@ -1,4 +1,4 @@
-use Rattle.std.proofs.Common.{◌≡◌, ◌∙◌, refl, ap, arith, List, ℕ, length}
+use Rattle.std.proofs.Common.{◌≡◌, ◌∙◌, ap, arith, List, ℕ, length}
 use Rattle.goal_moves.proofs.Committing.{IfOk-then}
 use Rattle.pl_machine.specs.declared.machine.Machine.{Machine}
 use Rattle.pl_machine.specs.Moving.{Activates}
@@ -33,7 +33,7 @@ returns-in-Some-clause-peak c =
     let w = c.in-Some.ensures.waits in
     let there : Activates m → Activates l = λ a. let some = a.1 in ((w.0, w.1.1), omega (arith, some, same)) in
     let back : Activates l → Activates m = λ a. let some = a.1 in (c.in-Some.ensures.some, omega (arith, some, same)) in
-    IfOk-then c.act.result c.act.ensures.peak (λ p s. peaked_from m l n (ap (λ (x : Machine). x.peak) c.goal_first.ensures.others) (ap (λ (x : Machine). length x.path.choices.items) c.goal_first.ensures.others) there back s)
+    IfOk-then c.act.result c.act.ensures.peak (λ p s. peaked_from m l n (ap (λ (x : Machine). x.peak) c.goal_first.ensures.others) (ap (λ (x : Machine). length x.path.choices.items) c.goal_first.ensures.others) c.goal_first.ensures.leaves there back s)
 
 pub returns-in_default-clause-gives : goal.returns-in_default-clause-gives
 returns-in_default-clause-gives c =
