@@ -406,13 +406,13 @@ fn links_units(rt: HostRuntime) -> Result<(), Fail> {
     Ok(())
 }
 
-/// What a call leaves of its run: the steps and the answers of its machine.
+/// What a call leaves of its run: the steps, the answers and the peak of records of its machine.
 fn left(
     alloc: Global,
     shelf: &mut MemShelf,
     given: &[&str],
     last: &mut Option<Machine>,
-) -> Result<Option<(u64, u64)>, NoMemory> {
+) -> Result<Option<(u64, u64, usize)>, NoMemory> {
     let mut words = Words::new(alloc);
     for word in given {
         words.push(Name::of(alloc, word)?)?;
@@ -420,28 +420,39 @@ fn left(
     let mut out = MemSink::new(alloc, CallList::new(alloc));
     let _status = plmod(alloc, &words, shelf, &mut out, last);
     match last {
-        Some(machine) => Ok(Some((machine.steps(), machine.answers()))),
+        Some(machine) => Ok(Some((machine.steps(), machine.answers(), machine.peak()))),
         None => Ok(None),
     }
 }
 
 /// Commands in turn over the text `t`, and what each leaves.
-type Leaving = (&'static [&'static str], Option<(u64, u64)>);
+type Leaving = (&'static [&'static str], Option<(u64, u64, usize)>);
 
-const LEAVINGS: [Leaving; 8] = [
-    (&["all", "100", "a.", "t"], Some((4, 2))),
+const LEAVINGS: [Leaving; 14] = [
+    (&["all", "100", "a.", "t"], Some((4, 2, 1))),
     (&["prepare", "u", "t"], None),
-    (&["run", "3", "a.", "u"], Some((3, 1))),
+    (&["run", "3", "a.", "u"], Some((3, 1, 1))),
     (&["link", "u"], None),
-    (&["grow", "1", "100"], Some((2, 1))),
+    (&["grow", "1", "100"], Some((2, 1, 0))),
     (&["run", "100", "a a.", "u"], None),
-    (&["run", "100", "throw(b).", "u"], Some((1, 0))),
+    (&["run", "100", "throw(b).", "u"], Some((1, 0, 0))),
     (&["run", "100", "a.", "t"], None),
+    // clauses that don't fit the first argument leave no record
+    (&["run", "100", "p(2).", "u"], Some((1, 2, 1))),
+    (&["run", "100", "q(1).", "u"], Some((1, 1, 0))),
+    (&["run", "100", "q(_).", "u"], Some((1, 2, 1))),
+    // a catch has its recovery untried, but where its goal is none
+    (&["run", "100", "catch(p(2), _, a).", "u"], Some((2, 2, 2))),
+    (&["run", "100", "catch(1, _, a).", "u"], Some((5, 2, 1))),
+    (&["run", "100", "catch(1, _, c).", "u"], Some((2, 1, 0))),
 ];
 
 #[test]
 fn leaves_the_machine_of_a_run(rt: HostRuntime) -> Result<(), Fail> {
-    let Ok(mut shelf) = shelf_with(rt.alloc(), Some("a :- b, c. b. b. c.")) else {
+    let Ok(mut shelf) = shelf_with(
+        rt.alloc(),
+        Some("a :- b, c. b. b. c. p(1). p(2). p(f(a)). p(_). q(1). q(2)."),
+    ) else {
         assert!(rt; false, "memory is ample");
         return Ok(());
     };
