@@ -5,7 +5,7 @@ use Rattle.std.proofs.Math.Seq.{get_or-append_seam}
 use Rattle.pl_terms.specs.Trees.{Tree}
 use Rattle.goal_model.specs.Program.{Clause}
 use Rattle.goal_code.specs.declared.shape.ControlNames.{ControlNames}
-use Rattle.pl_store.specs.Linked.{Entered, no_clause}
+use Rattle.pl_store.specs.Linked.{StoredClause, no_clause}
 use Rattle.clause_code.specs.declared.codes.ClauseCode.{ClauseCode}
 use Rattle.clause_code.specs.Codes.{IsCoded, no_code, code_at}
 
@@ -18,7 +18,7 @@ last-or-before (suc n) (suc i) h = elim (last-or-before n i (omega (arith, h))) 
   | inr e ↦ inr (ap suc e)
 ]
 
-module _ (s : ControlNames) (cs : List Entered) (ks : List ClauseCode) (n : ℕ) (k : ClauseCode) (count : length ks ≡ n)
+module _ (s : ControlNames) (cs : List StoredClause) (ks : List ClauseCode) (n : ℕ) (k : ClauseCode) (count : length ks ≡ n)
     (each : (c : ℕ) → c < n → IsCoded s (get_or cs c no_clause).clause (code_at ks c)) (last : IsCoded s (get_or cs n no_clause).clause k) where
   at-end : (c : ℕ) → c ≡ n → code_at (ks ++ k ∷ []) c ≡ k
   at-end c e = ap (code_at (ks ++ k ∷ [])) (e ∙ sym count) ∙ get_or-append_seam ks k [] no_code

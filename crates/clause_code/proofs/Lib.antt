@@ -1,2 +1,5 @@
 pub mod ReadyLaws
 pub mod CodedLaws
+pub mod HeadLaws
+pub mod NameLaws
+pub mod ListLaws

@@ -4,15 +4,14 @@ use Rattle.pl_terms.specs.Occurrence.{occurrences, first_after, from_to}
 use Rattle.pl_unify.specs.Code.{Layout, last_tree}
 use Rattle.goal_model.specs.Program.{Clause}
 use Rattle.goal_code.specs.declared.shape.ControlNames.{ControlNames}
-use Rattle.goal_code.specs.Compiled.{Compiled}
 use Rattle.goal_code.specs.Runs.{IsBody}
 use Rattle.goal_code.specs.Settled.{is_settled, AreSettled}
-use Rattle.goal_frames.specs.Frames.{ClauseCode as BodyCode}
-use Rattle.pl_store.specs.Linked.{Entered, no_clause}
+use Rattle.goal_code.specs.BodyCode.{BodyCode}
+use Rattle.pl_store.specs.Linked.{StoredClause, no_clause}
 use Rattle.clause_code.specs.declared.codes.ClauseCode.{ClauseCode}
 
 -- a clause that has a code: its variables are 0, 1, 2 and so on, and its goals are known before they run
-pub record IsReady (s : ControlNames) (e : Entered) : Type 0 where
+pub record IsReady (s : ControlNames) (e : StoredClause) : Type 0 where
   pub numbered : first_after [] (occurrences e.clause.head ++ occurrences e.clause.body) ≡ from_to 0 e.clause.width
   pub width : e.clause.width < 2 ^ 63
   pub settled : is_settled s e.clause.body ≡ true
@@ -40,7 +39,7 @@ abbrev pub code_at : List ClauseCode → ℕ → ClauseCode
 code_at ks c = slice_index_or ks c no_code
 
 -- each clause has its code at its number
-pub record IsCodes (s : ControlNames) (cs : List Entered) (ks : List ClauseCode) : Type 0 where
+pub record IsCodes (s : ControlNames) (cs : List StoredClause) (ks : List ClauseCode) : Type 0 where
   pub count : length ks ≡ length cs
   pub each : (c : ℕ) → c < length cs → IsCoded s (slice_index_or cs c no_clause).clause (code_at ks c)
 

@@ -3,8 +3,8 @@ use Rattle.std.proofs.Common.{◌≡◌, ℕ, Bool, true, false, List, [], ◌�
 use Rattle.std.specs.Prelude.{nat_eq, ◌&&◌, ◌||◌, if◌then◌else◌, codes}
 use Rattle.std.proofs.lemmas.List.{map-append}
 use Rattle.pl_terms.specs.Trees.{Tree, var, int, atom, comp, Trees, nil, cons}
-use Rattle.run_model.specs.Substitution.{apply_all, raise, raise_all}
-use Rattle.run_model.proofs.Replaced.{apply-atom, apply-comp, apply_all-none, apply_all-tree}
+use Rattle.unifier_model.specs.Substitution.{apply_all, raise, raise_all}
+use Rattle.unifier_model.proofs.Replaced.{apply-atom, apply-comp, apply_all-none, apply_all-tree}
 use Rattle.builtin_model.specs.Naming.{Naming}
 use Rattle.goal_model.specs.Environments.{Environment}
 use Rattle.goal_model.specs.Bodies.{is_named}

@@ -3,7 +3,7 @@ use Rattle.std.proofs.Common.{◌≡◌, ℕ, zero, suc, ◌+◌, Bool, true, fa
 use Rattle.std.specs.Prelude.{nat_eq, if◌then◌else◌}
 use Rattle.pl_atoms.specs.declared.names.NameId.{NameId}
 use Rattle.pl_terms.specs.Trees.{Tree, var, int, atom, comp, nil, cons, count}
-use Rattle.run_model.specs.Substitution.{size}
+use Rattle.unifier_model.specs.Substitution.{size}
 use Rattle.pl_unify.specs.declared.word.View.TheVariants as V
 use Rattle.pl_unify.specs.Shape.{root, arity, argument}
 use Rattle.goal_code.specs.declared.shape.ControlNames.{ControlNames}

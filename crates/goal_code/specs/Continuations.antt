@@ -1,10 +1,10 @@
 -- What is still to be run from a place of a body on, as items of a search.
 use Rattle.std.specs.Prelude.{◌≡◌, ℕ, zero, suc, ◌-◌, List, ◌∷◌, ◌++◌, map, Some, None}
 use Rattle.pl_terms.specs.Trees.{Tree}
-use Rattle.run_model.specs.Substitution.{apply, raise}
+use Rattle.unifier_model.specs.Substitution.{apply, raise}
 use Rattle.pl_unify.specs.declared.code.CodeWord.{CodeWord}
 use Rattle.pl_unify.specs.Code.{code_tree}
-use Rattle.search_theory.specs.Search.{Item, Cut}
+use Rattle.solver_model.specs.Search.{Item, Cut}
 use Rattle.builtin_model.specs.Naming.{Naming}
 use Rattle.goal_model.specs.Environments.{Environment}
 use Rattle.goal_model.specs.Bodies.{Goal}

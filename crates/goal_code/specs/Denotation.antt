@@ -1,7 +1,7 @@
 -- The goals of a body as items of a search.
 use Rattle.std.specs.Prelude.{◌≡◌, ℕ, map, codes, nat_eq}
 use Rattle.pl_terms.specs.Trees.{Tree}
-use Rattle.search_theory.specs.Search.{Item, Call}
+use Rattle.solver_model.specs.Search.{Item, Call}
 use Rattle.builtin_model.specs.Naming.{Naming}
 use Rattle.goal_model.specs.Environments.{Environment}
 use Rattle.goal_model.specs.Bodies.{Goal, is_named, flat}

@@ -7,3 +7,4 @@ pub mod Compiled
 pub mod Denotation
 pub mod Continuations
 pub mod Settled
+pub mod BodyCode

@@ -4,7 +4,7 @@ use Rattle.std.specs.List.{All}
 use Rattle.pl_terms.specs.Trees.{Tree}
 use Rattle.pl_unify.specs.declared.code.CodeWord.{CodeWord}
 use Rattle.pl_unify.specs.Code.{code_tree}
-use Rattle.run_model.specs.Substitution.{size}
+use Rattle.unifier_model.specs.Substitution.{size}
 use Rattle.goal_code.specs.declared.instruction.Instruction.{Instruction}
 use Rattle.goal_code.specs.declared.shape.ControlNames.{ControlNames}
 use Rattle.goal_code.specs.declared.work.Task.{Task}

@@ -6,8 +6,6 @@ mod instruction;
 pub mod laws;
 mod list;
 mod shape;
-#[cfg(test)]
-mod tests;
 mod work;
 
 pub use body::Body;

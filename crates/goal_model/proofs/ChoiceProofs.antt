@@ -4,13 +4,13 @@ use Rattle.std.specs.Ordering.{int_eq}
 use Rattle.std.proofs.lemmas.Bool.Decides.{Decides-int_eq}
 use Rattle.std.proofs.lemmas.Bool.{false≢true, eq-eqb, eqb-true}
 use Rattle.pl_terms.specs.Trees.{Tree, var, int, atom, comp, Trees, nil, cons, count}
-use Rattle.run_model.specs.Substitution.{raise, raise_all}
-use Rattle.run_model.specs.Unifier.{IsClash, ints, atoms, names, counts, int_atom, atom_int, int_comp, comp_int, atom_comp, comp_atom, Solved, parts, clash}
-use Rattle.run_model.specs.Mgu.{mgu}
-use Rattle.run_model.proofs.MguProofs.{Solved-mgu}
-use Rattle.run_model.proofs.Only.{Solved-only}
+use Rattle.unifier_model.specs.Substitution.{raise, raise_all}
+use Rattle.unifier_model.specs.Unifier.{IsClash, ints, atoms, names, counts, int_atom, atom_int, int_comp, comp_int, atom_comp, comp_atom, Solved, parts, clash}
+use Rattle.unifier_model.specs.Mgu.{mgu}
+use Rattle.unifier_model.proofs.MguProofs.{Solved-mgu}
+use Rattle.unifier_model.proofs.Only.{Solved-only}
 use Rattle.std.specs.List.{list_any}
-use Rattle.search_theory.proofs.SkipLaws.{Hopeless}
+use Rattle.solver_model.proofs.SkipLaws.{Hopeless}
 use Rattle.builtin_model.specs.Naming.{Naming}
 use Rattle.goal_model.specs.Program.{Clauses, Program}
 use Rattle.goal_model.specs.Table.{Alternative, leads, resolves, attempt, resolved, prolog}

@@ -3,10 +3,10 @@ use Rattle.std.proofs.Common.{◌≡◌, ℕ, ◌+◌, ◌<◌, Bool, true, fals
 use Rattle.std.specs.Prelude.{nat_eq}
 use Rattle.std.proofs.lemmas.Bool.{eqb-true}
 use Rattle.pl_terms.specs.Trees.{Tree, count}
-use Rattle.run_model.specs.Substitution.{apply, raise}
-use Rattle.run_model.specs.Mgu.{unifier}
-use Rattle.search_theory.specs.Search.{Call, Cut, Pop, Fail, At, pops, has}
-use Rattle.search_theory.specs.Guards.{Within, PointOk, AttemptOk, RecoverOk, AlternativesOk, ActivationOk, TableOk}
+use Rattle.unifier_model.specs.Substitution.{apply, raise}
+use Rattle.unifier_model.specs.Mgu.{unifier}
+use Rattle.solver_model.specs.Search.{Call, Cut, Pop, Fail, At, pops, has}
+use Rattle.solver_model.specs.Guards.{Within, PointOk, AttemptOk, RecoverOk, AlternativesOk, ActivationOk, TableOk}
 use Rattle.builtin_model.specs.Naming.{Naming}
 use Rattle.builtin_model.specs.Lists.{listing, list_tree}
 use Rattle.builtin_model.specs.Deeds.{Deed, equal, differ, no, raise as raises, halt, deed}

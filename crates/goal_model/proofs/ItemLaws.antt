@@ -1,9 +1,9 @@
 -- The goals of a body bring no exits, and replacements keep exits and cuts.
 use Rattle.std.proofs.Common.{◌≡◌, ℕ, Bool, true, false, List, [], ◌∷◌, ◌++◌, refl, sym, ap, ◌∙◌, subst, append_assoc, map, codes, if◌then◌else◌}
 use Rattle.pl_terms.specs.Trees.{Tree, var, int, atom, comp, nil, cons}
-use Rattle.search_theory.specs.Search.{Call, Cut, Pop, Fail, Catches, FrameOf, outs_of, pops}
-use Rattle.search_theory.specs.Configurations.{AllBelow, Clear, ItemsOk}
-use Rattle.search_theory.proofs.FrameLaws.{append-nil}
+use Rattle.solver_model.specs.Search.{Call, Cut, Pop, Fail, Catches, FrameOf, outs_of, pops}
+use Rattle.solver_model.specs.Configurations.{AllBelow, Clear, ItemsOk}
+use Rattle.solver_model.proofs.FrameLaws.{append-nil}
 use Rattle.builtin_model.specs.Naming.{Naming}
 use Rattle.goal_model.specs.Program.{Program}
 use Rattle.goal_model.specs.Environments.{Environment}

@@ -4,9 +4,9 @@ use Rattle.std.specs.Prelude.{option_map}
 use Rattle.std.specs.Ordering.{int_eq}
 use Rattle.std.proofs.lemmas.Bool.{false≢true, eq-eqb, eqb-true}
 use Rattle.pl_terms.specs.Trees.{Tree, var, int, atom, comp, Trees, nil, cons, count, renamed, all_renamed}
-use Rattle.run_model.specs.Substitution.{replace, replace_all, occurs, occurs_any, size, sizes}
-use Rattle.run_model.specs.Unifier.{replaced, pairs, binding}
-use Rattle.run_model.specs.Mgu.{Move, stop, turn, bind, at_variable, move, after_move, pass, weight, solve, occurs_in, live, top, top_all, top_in, unifier, mgu}
+use Rattle.unifier_model.specs.Substitution.{replace, replace_all, occurs, occurs_any, size, sizes}
+use Rattle.unifier_model.specs.Unifier.{replaced, pairs, binding}
+use Rattle.unifier_model.specs.Mgu.{Move, stop, turn, bind, at_variable, move, after_move, pass, weight, solve, occurs_in, live, top, top_all, top_in, unifier, mgu}
 use Rattle.goal_model.specs.NameLaws.{SameNames, equation_by, replacement_by, MguRenames}
 
 abbrev Equations : Type 0 → Type 0

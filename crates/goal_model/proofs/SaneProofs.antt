@@ -1,14 +1,14 @@
 -- Each goal's cuts meet no exit and no nested search, and its nodes stand above those around it.
 use Rattle.std.proofs.Common.{ℕ, Bool, ◌+◌, List, [], ◌∷◌, ◌++◌, Option, Some, None, Result, Ok, Err, refl, sym, ◌∙◌, subst, arith, map}
 use Rattle.pl_terms.specs.Trees.{Tree, Trees, count}
-use Rattle.run_model.specs.Substitution.{apply, raise}
-use Rattle.run_model.specs.Mgu.{unifier}
-use Rattle.search_theory.specs.Search.{Call, Cut, Pop, Fail, At, Catches, Collects, FrameOf, pops}
-use Rattle.search_theory.specs.Frames.{Falls}
-use Rattle.search_theory.specs.Configurations.{AllBelow, Clear, ItemsOk, StateOk, SaneAt, AttemptSane, AlternativesSane, RecoverSane, ActivationSane, TableSane}
-use Rattle.search_theory.proofs.FrameLaws.{append-nil}
-use Rattle.search_theory.proofs.ExitLaws.{pops-fall}
-use Rattle.search_theory.proofs.TurnLaws.{Falls-wider, below_wider, falls_ungathered, chain_falls}
+use Rattle.unifier_model.specs.Substitution.{apply, raise}
+use Rattle.unifier_model.specs.Mgu.{unifier}
+use Rattle.solver_model.specs.Search.{Call, Cut, Pop, Fail, At, Catches, Collects, FrameOf, pops}
+use Rattle.solver_model.specs.Frames.{Falls}
+use Rattle.solver_model.specs.Configurations.{AllBelow, Clear, ItemsOk, StateOk, SaneAt, AttemptSane, AlternativesSane, RecoverSane, ActivationSane, TableSane}
+use Rattle.solver_model.proofs.FrameLaws.{append-nil}
+use Rattle.solver_model.proofs.ExitLaws.{pops-fall}
+use Rattle.solver_model.proofs.TurnLaws.{Falls-wider, below_wider, falls_ungathered, chain_falls}
 use Rattle.builtin_model.specs.Naming.{Naming}
 use Rattle.builtin_model.specs.Lists.{listing, list_tree}
 use Rattle.builtin_model.specs.Deeds.{Deed, equal, differ, no, raise as raises, halt, deed}

@@ -3,7 +3,7 @@ use Rattle.std.proofs.Common.{◌≡◌, ℕ, negsuc, Bool, true, false, Option,
 use Rattle.pl_terms.specs.Trees.{Tree, var, int}
 use Rattle.pl_ops.specs.Standard.{standard}
 use Rattle.unit_model.specs.Builtins.{builtins}
-use Rattle.search_theory.specs.Search.{Event, Out, Ans, Failed, Thrown, Halted, Spent}
+use Rattle.solver_model.specs.Search.{Event, Out, Ans, Failed, Thrown, Halted, Spent}
 use Rattle.builtin_model.specs.Faults.{instantiation, fault_tree}
 use Rattle.builtin_model.specs.Lists.{list_tree}
 use Rattle.goal_model.specs.Program.{Clause, Program}

@@ -3,7 +3,7 @@ use Rattle.std.specs.Prelude.{ℕ, pos, List, [], ◌∷◌, codes, nat_eq, Bool
 use Rattle.std.specs.List.{list_any}
 use Rattle.pl_terms.specs.Trees.{Tree, int, atom, comp, nil, cons}
 use Rattle.unit_model.specs.Facts.{Indicator}
-use Rattle.search_theory.specs.Search.{Event, End, Outcome}
+use Rattle.solver_model.specs.Search.{Event, End, Outcome}
 use Rattle.builtin_model.specs.Naming.{Naming, by_numbers}
 use Rattle.goal_model.specs.Program.{Clause, Clauses, Program}
 use Rattle.goal_model.specs.Run.{run_of}

@@ -3,7 +3,7 @@ use Rattle.std.specs.Prelude.{ℕ, List, [], ◌∷◌, ◌++◌, codes, nat_lt,
 use Rattle.pl_atoms.specs.Names.{same_text}
 use Rattle.pl_terms.specs.Trees.{Tree, var, int, atom, comp, Trees, nil, cons, count, append}
 use Rattle.unit_model.specs.Directives.{is_control}
-use Rattle.search_theory.specs.Search.{Item, Call}
+use Rattle.solver_model.specs.Search.{Item, Call}
 use Rattle.builtin_model.specs.Naming.{Naming}
 use Rattle.builtin_model.specs.Faults.{instantiation, max_arity, fault_tree, named, term_of_one, term_of_two, indicator}
 use Rattle.goal_model.specs.Environments.{Environment}

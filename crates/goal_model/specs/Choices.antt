@@ -3,7 +3,7 @@ use Rattle.std.specs.Prelude.{◌≡◌, ℕ, ℤ, List, nat_eq, Bool, true, fal
 use Rattle.std.specs.Ordering.{int_eq}
 use Rattle.std.specs.List.{list_any}
 use Rattle.pl_terms.specs.Trees.{Tree, var, int, atom, comp, cons, count}
-use Rattle.search_theory.specs.Search.{Frame, Tries, Catches, Collects}
+use Rattle.solver_model.specs.Search.{Frame, Tries, Catches, Collects}
 use Rattle.builtin_model.specs.Naming.{Naming}
 use Rattle.goal_model.specs.Program.{Clause, Clauses}
 use Rattle.goal_model.specs.Table.{Resolution, Alternative, leads, resolves, Recovery, Gathering, attempt}

@@ -1,7 +1,7 @@
 -- Unifiers under other names.
 use Rattle.std.specs.Prelude.{◌≡◌, ℕ, List, map, option_map, Bool}
 use Rattle.pl_terms.specs.Trees.{Tree, renamed}
-use Rattle.run_model.specs.Mgu.{mgu}
+use Rattle.unifier_model.specs.Mgu.{mgu}
 
 -- different names become different ones
 abbrev pub KeepsApart : (ℕ → ℕ) → Type 0

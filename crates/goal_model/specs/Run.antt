@@ -2,8 +2,8 @@
 use Rattle.std.specs.Prelude.{ℕ, Bool, List, [], length, map, codes, Result, Ok, Err}
 use Rattle.pl_terms.specs.Trees.{Tree, var}
 use Rattle.pl_terms.specs.Occurrence.{variables, canon, from_to}
-use Rattle.search_theory.specs.Search.{Point, Outcome, Thrown, At, Over}
-use Rattle.search_theory.specs.Frames.{value}
+use Rattle.solver_model.specs.Search.{Point, Outcome, Thrown, At, Over}
+use Rattle.solver_model.specs.Frames.{value}
 use Rattle.builtin_model.specs.Naming.{Naming}
 use Rattle.goal_model.specs.Program.{Clauses, Program}
 use Rattle.goal_model.specs.Environments.{Environment}

@@ -3,10 +3,10 @@ use Rattle.std.specs.Prelude.{ℕ, ◌+◌, List, [], ◌∷◌, ◌++◌, lengt
 use Rattle.pl_terms.specs.Trees.{Tree, var, atom, comp, Trees, nil, count}
 use Rattle.pl_terms.specs.Occurrence.{variables, canon}
 use Rattle.unit_model.specs.Facts.{Indicator}
-use Rattle.run_model.specs.Substitution.{apply, raise}
-use Rattle.run_model.specs.Mgu.{unifier}
-use Rattle.search_theory.specs.Search.{Item, Event, State, Point, Activation, Call, Cut, Pop, Fail, Out, Failed, Thrown, Halted, At, Over, Tries, Catches, Collects, Ends, Opens, Language, pops}
-use Rattle.search_theory.specs.Tables.{Table, language}
+use Rattle.unifier_model.specs.Substitution.{apply, raise}
+use Rattle.unifier_model.specs.Mgu.{unifier}
+use Rattle.solver_model.specs.Search.{Item, Event, State, Point, Activation, Call, Cut, Pop, Fail, Out, Failed, Thrown, Halted, At, Over, Tries, Catches, Collects, Ends, Opens, Language, pops}
+use Rattle.solver_model.specs.Tables.{Table, language}
 use Rattle.builtin_model.specs.Naming.{Naming}
 use Rattle.builtin_model.specs.Faults.{instantiation, type_fault, fault_tree, named, term_of_two, indicator}
 use Rattle.builtin_model.specs.declared.error.Expected.TheVariants as E

@@ -1,6 +1,6 @@
 //! Laws of the search for the answers of a goal.
 ghost use Rattle.std.specs.Prelude.{ℕ, Bool};
-ghost use Rattle.search_theory.specs.ValueLaws.{BoundFree, BudgetAdds};
+ghost use Rattle.solver_model.specs.ValueLaws.{BoundFree, BudgetAdds};
 ghost use Rattle.builtin_model.specs.Naming.{Naming};
 ghost use Rattle.goal_model.specs.Choices.{UnfitFail};
 ghost use Rattle.goal_model.specs.NameLaws.{MguRenames};

@@ -1,4 +1,4 @@
-//! What each goal does (ISO/IEC 13211-1, 7.8, and 13211-2, 6): the table of goals, over the search of search_theory, and the run of a goal.
+//! What each goal does (ISO/IEC 13211-1, 7.8, and 13211-2, 6): the table of goals, over the search of solver_model, and the run of a goal.
 //! The definitions stand in specs.
 #![tactic(auto)]
 

@@ -10,7 +10,7 @@ use Rattle.pl_unify.specs.declared.word.View.TheVariants as V
 use Rattle.pl_unify.specs.Shape.{root, arity, argument, nth_tree}
 use Rattle.pl_unify.specs.State.{State, tree_at, IsRef}
 use Rattle.builtin_model.specs.Lists.{listed}
-use Rattle.goal_terms.specs.Goals.{arguments_of}
+use Rattle.goal_constructs.specs.Goals.{arguments_of}
 
 listed-length : (ts : Trees ℕ) → length (listed ts) ≡ count ts
 listed-length nil = refl

@@ -2,20 +2,20 @@
 use Rattle.std.proofs.Common.{◌≡◌, ℕ, ◌+◌, false, List, [], ◌∷◌, ◌++◌, Some, None, refl, sym, ap, ◌∙◌, subst, map, nat_eq, ◌||◌}
 use Rattle.std.specs.List.{list_any}
 use Rattle.pl_terms.specs.Trees.{Tree}
-use Rattle.run_model.specs.Substitution.{apply, raise}
-use Rattle.run_model.specs.Mgu.{mgu}
-use Rattle.search_theory.specs.Search.{At, Over, Failed, Tries, FrameOf}
-use Rattle.search_theory.specs.Configurations.{Turns}
-use Rattle.search_theory.proofs.TurnLaws.{stands, turns_then, turn_skip, turn_take}
-use Rattle.search_theory.proofs.SkipLaws.{Hopeless, turn_hopeless, turn_skips}
+use Rattle.unifier_model.specs.Substitution.{apply, raise}
+use Rattle.unifier_model.specs.Mgu.{mgu}
+use Rattle.solver_model.specs.Search.{At, Over, Failed, Tries, FrameOf}
+use Rattle.solver_model.specs.Configurations.{Turns}
+use Rattle.solver_model.proofs.TurnLaws.{stands, turns_then, turn_skip, turn_take}
+use Rattle.solver_model.proofs.SkipLaws.{Hopeless, turn_hopeless, turn_skips}
 use Rattle.goal_model.specs.Program.{Clause, Clauses}
 use Rattle.goal_model.specs.Choices.{key_of, fits, is_untried}
 use Rattle.goal_model.specs.Table.{Resolution, resolves, resolved, attempt, body_items, item_under, World, Items}
 use Rattle.goal_model.proofs.ChoiceProofs.{untried-hopeless}
 use Rattle.pl_store.specs.Runs.{program_of}
 use Rattle.pl_store.specs.Walks.{any_fits}
-use Rattle.goal_records.specs.declared.library.Library.{Library}
-use Rattle.goal_records.specs.Denotation.{linked, naming, language_of}
+use Rattle.goal_state.specs.declared.compiled.CompiledProgram.{CompiledProgram}
+use Rattle.goal_state.specs.Denotation.{linked, naming, language_of}
 use Rattle.goal_moves.proofs.ThinLaws.{turn_thins}
 
 pub untried_fits : (r : Resolution ℕ) (cs : List (Clause ℕ)) → list_any (is_untried nat_eq) (map (resolves r) cs) ≡ any_fits (key_of r.goal) cs
@@ -26,7 +26,7 @@ pub split_map : {A B : Type 0} (f : A → B) (xs ys : List A) → map f (xs ++ y
 split_map f [] ys = refl
 split_map f (x ∷ xs) ys = ap (λ l. f x ∷ l) (split_map f xs ys)
 
-module _ (b : Library) (r : Resolution ℕ) where
+module _ (b : CompiledProgram) (r : Resolution ℕ) where
   pub unfit_hopeless : (cs : List (Clause ℕ)) → any_fits (key_of r.goal) cs ≡ false → Hopeless (language_of b) (map (resolves r) cs)
   unfit_hopeless cs h = untried-hopeless (naming b) (program_of (linked b)) (map (resolves r) cs) (untried_fits r cs ∙ h)
 

@@ -6,18 +6,19 @@ use Rattle.pl_unify.specs.declared.word.Ref.{Ref}
 use Rattle.pl_unify.specs.declared.store.Mark.{Mark}
 use Rattle.pl_unify.specs.State.{State, state_at, IsMark, IsStore, Extends}
 use Rattle.pl_store.specs.Linked.{Linked}
-use Rattle.goal_frames.specs.declared.frames.Frame.{Frame}
-use Rattle.goal_frames.specs.Frames.{ClauseCode, place_get, items_of, FramesFit}
-use Rattle.goal_frames.proofs.FrameLaws.{items_take}
-use Rattle.goal_records.specs.declared.choice.Choice.{Choice}
-use Rattle.goal_records.specs.declared.choice.ChoiceKind.{ChoiceKind}
-use Rattle.goal_records.specs.declared.choice.ChoiceKind.TheVariants.{Clauses, Branch, Catch, Collect}
-use Rattle.goal_records.specs.declared.library.Library.{Library}
-use Rattle.goal_records.specs.declared.path.Path.{Path}
-use Rattle.goal_records.specs.Denotation.{bodies, linked, state_of, answers_of, items_here, world_here, world_of, frames_on, frames_by, rest_items, setting_in, setting_at, outer_of, outer_answers}
-use Rattle.goal_records.specs.Well.{Older, Stand, KindFits, TemplateFits, IsWellWith, floor_of, mark_of, collects}
-use Rattle.goal_records.proofs.PlaceLaws.{place_take}
-use Rattle.goal_records.proofs.RecordLaws.{frames_agree, all_agree, stand_wider}
+use Rattle.goal_state.specs.declared.frames.Frame.{Frame}
+use Rattle.goal_code.specs.BodyCode.{BodyCode}
+use Rattle.goal_state.specs.Frames.{place_get, items_of, FramesFit}
+use Rattle.goal_state.proofs.FrameLaws.{items_take}
+use Rattle.goal_state.specs.declared.choice.Choice.{Choice}
+use Rattle.goal_state.specs.declared.choice.ChoiceKind.{ChoiceKind}
+use Rattle.goal_state.specs.declared.choice.ChoiceKind.TheVariants.{Clauses, Branch, Catch, Collect}
+use Rattle.goal_state.specs.declared.compiled.CompiledProgram.{CompiledProgram}
+use Rattle.goal_state.specs.declared.path.Path.{Path}
+use Rattle.goal_state.specs.Denotation.{bodies, linked, state_of, answers_of, items_here, world_here, world_of, frames_on, frames_by, rest_items, setting_in, setting_at, outer_of, outer_answers}
+use Rattle.goal_state.specs.Well.{Older, Stand, KindFits, TemplateFits, IsWellWith, floor_of, mark_of, collects}
+use Rattle.goal_state.proofs.PlaceLaws.{place_take}
+use Rattle.goal_state.proofs.RecordLaws.{frames_agree, all_agree, stand_wider}
 use Rattle.goal_moves.proofs.KeepLaws.{answers_length}
 
 -- ---- marks
@@ -92,7 +93,7 @@ collects_left (Collect list outer) (g ∷ gs) k h = omega (arith, h)
 
 -- ---- a path that went back to a record that was taken off
 
-module _ (b : Library) (p q : Path) (c : Choice) (cs : List Choice) (d : ℕ) (w : IsWellWith b p (c ∷ cs) d)
+module _ (b : CompiledProgram) (p q : Path) (c : Choice) (cs : List Choice) (d : ℕ) (w : IsWellWith b p (c ∷ cs) d)
     (state : state_of q ≡ state_at c.mark (state_of p)) (frames : q.frames ≡ take c.rest p.frames) (template : q.template ≡ outer_of c.kind p.template)
     (gathered : answers_of q ≡ outer_answers c.kind (answers_of p)) (width : q.width ≡ p.width) where
   abbrev here : State
@@ -151,7 +152,7 @@ module _ (b : Library) (p q : Path) (c : Choice) (cs : List Choice) (d : ℕ) (w
   }
 
   -- what goes on from the record's frame
-  pub back_rest : (f pc : ℕ) → ((x : ℕ → ClauseCode) (s : State) → items_of x s q.frames f pc ≡ items_of x s q.frames c.rest 0) → items_here b q f pc ≡ rest_items b p.width (state_of p) p.frames c
+  pub back_rest : (f pc : ℕ) → ((x : ℕ → BodyCode) (s : State) → items_of x s q.frames f pc ≡ items_of x s q.frames c.rest 0) → items_here b q f pc ≡ rest_items b p.width (state_of p) p.frames c
   back_rest f pc h =
       let in_old : c.rest ≤ length p.frames = w.records.0.rest in
       h (bodies b) (state_of q)

@@ -5,7 +5,7 @@ use Rattle.pl_terms.specs.Trees.{Tree}
 use Rattle.pl_unify.specs.declared.code.CodeWord.{CodeWord}
 use Rattle.pl_unify.specs.Code.{code_tree}
 use Rattle.pl_unify.specs.State.{bound}
-use Rattle.search_theory.specs.Search.{Call, Cut, FrameOf, Tries}
+use Rattle.solver_model.specs.Search.{Call, Cut, FrameOf, Tries}
 use Rattle.goal_model.specs.Bodies.{Goal, flat}
 use Rattle.goal_model.specs.Rows.{Row, commit, if_then_else as if_then_else_row, if_then as if_then_row, either, row_of}
 use Rattle.goal_model.specs.Table.{Items, node as node_of, on}
@@ -19,18 +19,18 @@ use Rattle.goal_code.specs.Settled.{is_settled, standing, IsRow, PartsSettled}
 use Rattle.goal_code.specs.Continuations.{Running, items_from}
 use Rattle.goal_code.proofs.ContinuationLaws.{items_follow, runs_come_first}
 use Rattle.goal_code.proofs.SettledLaws.{rows_stay, goals_stay}
-use Rattle.goal_terms.proofs.NameLaws.{control_names}
-use Rattle.goal_frames.specs.declared.frames.Setting.{Setting}
-use Rattle.goal_frames.specs.declared.frames.Part.TheVariants as P
-use Rattle.goal_frames.specs.Frames.{env_of, running, IsLinked}
-use Rattle.goal_frames.proofs.FrameLaws.{frames_read}
-use Rattle.goal_records.specs.declared.choice.ChoiceKind.TheVariants.{Branch}
-use Rattle.goal_records.specs.declared.library.Library.{Library}
-use Rattle.goal_records.specs.declared.path.Path.{Path}
-use Rattle.goal_records.specs.Denotation.{naming, bodies, language_of, state_of, answers_of, items_here, world_here}
-use Rattle.goal_records.specs.Well.{IsLibrary, IsWellWith, floor_of}
-use Rattle.goal_records.specs.Steps.{link_to, kept, template_kept, answers_kept}
-use Rattle.goal_records.proofs.PathLaws.{put_within}
+use Rattle.goal_constructs.proofs.NameLaws.{control_names}
+use Rattle.goal_state.specs.declared.frames.Setting.{Setting}
+use Rattle.goal_state.specs.declared.frames.Part.TheVariants as P
+use Rattle.goal_state.specs.Frames.{env_of, running, IsLinked}
+use Rattle.goal_state.proofs.FrameLaws.{frames_read}
+use Rattle.goal_state.specs.declared.choice.ChoiceKind.TheVariants.{Branch}
+use Rattle.goal_state.specs.declared.compiled.CompiledProgram.{CompiledProgram}
+use Rattle.goal_state.specs.declared.path.Path.{Path}
+use Rattle.goal_state.specs.Denotation.{naming, bodies, language_of, state_of, answers_of, items_here, world_here}
+use Rattle.goal_state.specs.Well.{IsCompiled, IsWellWith, floor_of}
+use Rattle.goal_state.specs.Steps.{link_to, kept, template_kept, answers_kept}
+use Rattle.goal_state.proofs.PathLaws.{put_within}
 use Rattle.goal_moves.specs.declared.going.Going.TheVariants.{On}
 use Rattle.goal_moves.specs.Branching.{condition_from}
 use Rattle.goal_moves.specs.Control.{OpenedHere}
@@ -56,7 +56,7 @@ ends s ws code stop m t h = go (instruction_at code m) refl h
     go o e i = absurd i
 
 -- an instruction stands first on a path
-module _ (b : Library) (lib : IsLibrary b) (p : Path) (c : Instruction) (st : Setting) (code : IsCode b p c st) (chained : IsLinked p.frames) where
+module _ (b : CompiledProgram) (lib : IsCompiled b) (p : Path) (c : Instruction) (st : Setting) (code : IsCode b p c st) (chained : IsLinked p.frames) where
   abbrev names : ControlNames
   names = b.constructs.names.control
 
@@ -190,7 +190,7 @@ module _ (b : Library) (lib : IsLibrary b) (p : Path) (c : Instruction) (st : Se
 -- ---- the constructs
 
 -- a cut stands first
-cut_row : (b : Library) (lib : IsLibrary b) (p : Path) (g n : ℕ) (st : Setting) (code : IsCode b p (I.Cut g n) st) → IsLinked p.frames → row_of (naming b) (first_goal b p (I.Cut g n) st code).tree ≡ commit
+cut_row : (b : CompiledProgram) (lib : IsCompiled b) (p : Path) (g n : ℕ) (st : Setting) (code : IsCode b p (I.Cut g n) st) → IsLinked p.frames → row_of (naming b) (first_goal b p (I.Cut g n) st code).tree ≡ commit
 cut_row b lib p g n st code chained = go (shape_of b.constructs.names.control (first_tree b lib p (I.Cut g n) st code chained)) (first_parts b lib p (I.Cut g n) st code chained) (first_row b lib p (I.Cut g n) st code chained).0
   where
     go : (x : Shape) → HasParts b.constructs.names.control (bodies b st.clause).words (bodies b st.clause).code (I.Cut g n) x
@@ -198,7 +198,7 @@ cut_row b lib p g n st code chained = go (shape_of b.constructs.names.control (f
     go cut h r = r
     go x h r = absurd h
 
-pub moved_cut_from : (b : Library) (lib : IsLibrary b) (p : Path) (g n : ℕ) (st : Setting) → IsCode b p (I.Cut g n) st → IsLinked p.frames → (node : ℕ) → IsWellWith b p (reverse p.choices.items) node → p.depth ≡ node + 1
+pub moved_cut_from : (b : CompiledProgram) (lib : IsCompiled b) (p : Path) (g n : ℕ) (st : Setting) → IsCode b p (I.Cut g n) st → IsLinked p.frames → (node : ℕ) → IsWellWith b p (reverse p.choices.items) node → p.depth ≡ node + 1
     → (q : Path) → reverse q.choices.items ≡ kept st.depth (reverse p.choices.items) → q.template ≡ template_kept st.depth (reverse p.choices.items) p.template → answers_of q ≡ answers_kept st.depth (reverse p.choices.items) (answers_of p)
     → q ≡ record p { choices = q.choices; template = q.template; gathered = q.gathered } → Moved b p (record q { pc = n }) (called b p node (items_here b p p.f p.pc)) On
 moved_cut_from b lib p g n st code chained node well deep q choices template answers others =
@@ -206,11 +206,11 @@ moved_cut_from b lib p g n st code chained node well deep q choices template ans
     stands b lib p (I.Cut g n) st code chained node (record q { pc = n })
     (moved_cut b p q node (first_goal b p (I.Cut g n) st code) (items_here b p p.f n) deep well choices template answers others q.f n (cut_row b lib p g n st code chained) (ap (λ k. items_here b p k n) (sym f)))
 
-pub leaves_cut_from : (b : Library) (lib : IsLibrary b) (p : Path) (g n : ℕ) (st : Setting) → IsCode b p (I.Cut g n) st → IsLinked p.frames → (node : ℕ) (new : Path) → has_more p new ≡ false → Leaves b p new (called b p node (items_here b p p.f p.pc))
+pub leaves_cut_from : (b : CompiledProgram) (lib : IsCompiled b) (p : Path) (g n : ℕ) (st : Setting) → IsCode b p (I.Cut g n) st → IsLinked p.frames → (node : ℕ) (new : Path) → has_more p new ≡ false → Leaves b p new (called b p node (items_here b p p.f p.pc))
 leaves_cut_from b lib p g n st code chained node new more = leaves_from b lib p (I.Cut g n) st code chained node new commit false (cut_row b lib p g n st code chained) refl more
 
 -- a disjunction stands first
-module _ (b : Library) (lib : IsLibrary b) (p : Path) (g l r n : ℕ) (st : Setting) (code : IsCode b p (I.Either g l r n) st) (chained : IsLinked p.frames)
+module _ (b : CompiledProgram) (lib : IsCompiled b) (p : Path) (g l r n : ℕ) (st : Setting) (code : IsCode b p (I.Either g l r n) st) (chained : IsLinked p.frames)
     (node : ℕ) (well : IsWellWith b p (reverse p.choices.items) node) (deep : p.depth ≡ node + 1) (q : Path) (o : OpenedHere p q Branch p.f r st node) where
   abbrev either_goal : Goal ℕ
   either_goal = first_goal b p (I.Either g l r n) st code
@@ -254,7 +254,7 @@ module _ (b : Library) (lib : IsLibrary b) (p : Path) (g l r n : ℕ) (st : Sett
       leaves_from b lib p (I.Either g l r n) st code chained node new (either (standing (bound (state_of p)) st.base sides.first) (standing (bound (state_of p)) st.base sides.second)) true sides.row refl more
 
 -- an if-then-else or an if-then stands first
-module _ (b : Library) (lib : IsLibrary b) (p : Path) (g k m : ℕ) (o : Option ℕ) (n : ℕ) (st : Setting) (code : IsCode b p (I.If g k m o n) st) (chained : IsLinked p.frames)
+module _ (b : CompiledProgram) (lib : IsCompiled b) (p : Path) (g k m : ℕ) (o : Option ℕ) (n : ℕ) (st : Setting) (code : IsCode b p (I.If g k m o n) st) (chained : IsLinked p.frames)
     (node : ℕ) (well : IsWellWith b p (reverse p.choices.items) node) (deep : p.depth ≡ node + 1) where
   abbrev if_goal : Goal ℕ
   if_goal = first_goal b p (I.If g k m o n) st code

@@ -1,72 +1,64 @@
 -- Paths on which goals of the program's procedures are activated.
 use Rattle.std.proofs.Common.{◌≡◌, ℕ, ◌+◌, ◌≤◌, Bool, false, List, ◌∷◌, ◌++◌, Option, Some, None, Result, Ok, Err, sym, ap, ◌∙◌, subst, arith, length, reverse, map, nat_eq}
 use Rattle.pl_atoms.specs.declared.memory.NoMemory.{NoMemory}
-use Rattle.pl_terms.specs.Trees.{Tree}
+use Rattle.pl_terms.specs.Trees.{Tree, count}
 use Rattle.pl_unify.specs.declared.word.Ref.{Ref}
-use Rattle.pl_unify.specs.State.{tree_at, IsRef, IsStore, Extends}
-use Rattle.search_theory.specs.Search.{Over, Failed, Tries}
-use Rattle.search_theory.specs.Configurations.{Turns}
-use Rattle.search_theory.proofs.TurnLaws.{stands, turns_then}
+use Rattle.pl_unify.specs.State.{tree_at, IsRef, IsStore, Extends, Grows}
+use Rattle.solver_model.specs.Search.{Over, Failed, Tries, Thrown, pops}
+use Rattle.solver_model.specs.Configurations.{Turns}
+use Rattle.solver_model.proofs.TurnLaws.{stands, turns_then, turn_call, turn_ends}
 use Rattle.goal_model.specs.Program.{Clause}
 use Rattle.goal_model.specs.Bodies.{Goal}
-use Rattle.goal_model.specs.Table.{Items, World, Resolution, resolves}
-use Rattle.goal_frames.specs.Frames.{env_of}
+use Rattle.goal_model.specs.Table.{Items, World, Resolution, resolves, row, by_clauses, node, no_procedure, resolution, Moved as Activation}
+use Rattle.goal_state.specs.Frames.{env_of}
 use Rattle.pl_store.specs.Runs.{program_of}
-use Rattle.goal_records.specs.declared.library.Library.{Library}
-use Rattle.goal_records.specs.declared.path.Path.{Path}
-use Rattle.goal_records.specs.Denotation.{linked, naming, language_of, clauses_on, state_of, items_here, world_here, frames_on}
-use Rattle.goal_records.specs.Well.{IsLibrary, IsWellWith}
-use Rattle.goal_records.proofs.PathLaws.{grown_frames_on, grown_well}
-use Rattle.goal_moves.specs.declared.user.Attempt.{Attempt}
+use Rattle.goal_state.specs.declared.compiled.CompiledProgram.{CompiledProgram}
+use Rattle.goal_state.specs.declared.path.Path.{Path}
+use Rattle.goal_state.specs.Denotation.{linked, naming, language_of, clauses_on, state_of, items_here, world_here, frames_on}
+use Rattle.goal_state.specs.Well.{IsCompiled, IsWellWith}
+use Rattle.goal_state.proofs.PathLaws.{grown_frames_on, grown_well}
+use Rattle.goal_moves.specs.declared.procedures.Attempt.{Attempt}
 use Rattle.goal_moves.specs.declared.going.Going.TheVariants.{Fails}
-use Rattle.goal_moves.specs.Moves.{tried, IsTrying, Moved}
+use Rattle.goal_moves.specs.Moves.{tried, IsTrying, Moved, goal_items, called, thrown, IsReady}
 use Rattle.goal_moves.proofs.Proper.{store_proper}
-use Rattle.goal_moves.proofs.AttemptLaws.{split_map}
-use Rattle.goal_moves.proofs.TryLaws.{well_deeper, resolution_at, tried_by}
+use Rattle.goal_moves.proofs.AttemptLaws.{split_map, unfit_hopeless}
+use Rattle.goal_moves.proofs.TryLaws.{well_deeper, resolution_at, tried_by, failed_over}
 use Rattle.std.specs.Prelude.{is_some, IfOk}
 use Rattle.std.specs.Option.{option_map}
 use Rattle.unit_model.specs.Facts.{Indicator}
-use Rattle.search_theory.specs.Search.{Thrown, pops}
-use Rattle.search_theory.proofs.TurnLaws.{turn_call, turn_ends}
-use Rattle.search_theory.proofs.SkipLaws.{turn_hopeless, turn_skips}
-use Rattle.pl_terms.specs.Trees.{count}
+use Rattle.solver_model.proofs.SkipLaws.{turn_hopeless, turn_skips}
 use Rattle.pl_terms.specs.Occurrence.{canon}
-use Rattle.pl_unify.specs.State.{Grows}
 use Rattle.goal_model.specs.Choices.{Key, key_of}
 use Rattle.goal_model.specs.Environments.{body_place}
 use Rattle.goal_model.specs.Rows.{row_of, name_of, arity_of, user}
-use Rattle.goal_model.specs.Table.{row, by_clauses, node, no_procedure, resolution, Moved as Activation}
 use Rattle.goal_model.proofs.SaneProofs.{table_sane}
-use Rattle.goal_terms.specs.Goals.{arguments_of}
+use Rattle.goal_constructs.specs.Goals.{arguments_of}
 use Rattle.pl_store.specs.Linked.{procedure_at, visible_in, may_match}
 use Rattle.pl_store.specs.Places.{next_place}
 use Rattle.pl_store.specs.Rules.{indicator_of}
 use Rattle.pl_store.specs.Walks.{clauses_from_place, any_fits}
 use Rattle.pl_store.proofs.WalkLaws.{procedures-found}
-use Rattle.goal_records.proofs.BindLaws.{grown_items, grown_world}
+use Rattle.goal_state.proofs.BindLaws.{grown_items, grown_world}
 use Rattle.goal_moves.specs.declared.active.Active.{Active}
 use Rattle.goal_moves.specs.declared.going.Going.{Going}
 use Rattle.goal_moves.specs.Clauses.{IsProcedureOf, passed_goal}
-use Rattle.goal_moves.specs.Moves.{goal_items, called, thrown, IsReady}
-use Rattle.goal_records.proofs.OpenRecords.{from_here}
+use Rattle.goal_state.proofs.OpenRecords.{from_here}
 use Rattle.goal_moves.proofs.NextLaws.{stops_none, stops_some, procedure_of}
-use Rattle.goal_moves.proofs.AttemptLaws.{unfit_hopeless}
-use Rattle.goal_moves.proofs.TryLaws.{failed_over}
 use Rattle.goal_moves.proofs.AfterLaws.{moved_after}
 use Rattle.goal_moves.proofs.GoalLaws.{indicator_is, modes_are, passed_indicator, visible_is}
 
 -- a store that grew
-pub grown_deeper : (b : Library) (p q : Path) (a : Active) → q ≡ record p { store = q.store } → Extends (state_of p) (state_of q) → IsStore (state_of q) → IsReady b p a → IsWellWith b q (reverse q.choices.items) q.depth
+pub grown_deeper : (b : CompiledProgram) (p q : Path) (a : Active) → q ≡ record p { store = q.store } → Extends (state_of p) (state_of q) → IsStore (state_of q) → IsReady b p a → IsWellWith b q (reverse q.choices.items) q.depth
 grown_deeper b p q a others more store ready =
     let depth : q.depth ≡ p.depth = ap (λ (y : Path). y.depth) others in
     let d = ready.depth in
     well_deeper b q (reverse q.choices.items) a.node q.depth (omega (arith, depth, d))
     (subst (λ cs. IsWellWith b q (reverse cs) a.node) (sym (ap (λ (y : Path). y.choices.items) others)) (grown_well b p q others more (reverse p.choices.items) a.node store ready.well))
 
-grown_frames : (b : Library) (p q : Path) (a : Active) → q ≡ record p { store = q.store } → Extends (state_of p) (state_of q) → IsReady b p a → frames_on b q (reverse q.choices.items) ≡ frames_on b p (reverse p.choices.items)
+grown_frames : (b : CompiledProgram) (p q : Path) (a : Active) → q ≡ record p { store = q.store } → Extends (state_of p) (state_of q) → IsReady b p a → frames_on b q (reverse q.choices.items) ≡ frames_on b p (reverse p.choices.items)
 grown_frames b p q a others more ready = ap (λ cs. frames_on b q (reverse cs)) (ap (λ (y : Path). y.choices.items) others) ∙ grown_frames_on b p q others more (reverse p.choices.items) a.node ready.well
 
-module _ (b : Library) (lib : IsLibrary b) (p : Path) (a : Active) (ready : IsReady b p a) (is_user : row_of (naming b) (tree_at (state_of p) a.goal) ≡ user (name_of (naming b) (tree_at (state_of p) a.goal)) (arguments_of (tree_at (state_of p) a.goal))) where
+module _ (b : CompiledProgram) (lib : IsCompiled b) (p : Path) (a : Active) (ready : IsReady b p a) (is_user : row_of (naming b) (tree_at (state_of p) a.goal) ≡ user (name_of (naming b) (tree_at (state_of p) a.goal)) (arguments_of (tree_at (state_of p) a.goal))) where
   abbrev t : Tree ℕ
   t = tree_at (state_of p) a.goal
 
@@ -200,12 +192,12 @@ if_ok_map (Ok g) P Q h p = h g p
 if_ok_map (Err e) P Q h p = tt
 
 -- the attempt of a goal whose clauses are looked up
-abbrev pub attempt_of : Library → Active → ℕ → Ref → Attempt
+abbrev pub attempt_of : CompiledProgram → Active → ℕ → Ref → Attempt
 attempt_of b a proc goal =
     let e = body_place (procedure_at (linked b) proc).home a.setting.context.0 (is_some (procedure_at (linked b) proc).modes) in
     record { goal = goal; setting = record { clause = 0; base = 0; lookup = record { 0 = e.lookup }; context = record { 0 = e.context }; caller = record { 0 = e.caller }; depth = a.node }; rest = a.rest }
 
-pub procedure_seen : (b : Library) (p : Path) (a : Active) (i : Indicator ℕ) (proc : ℕ) → IsLibrary b → indicator_of (tree_at (state_of p) a.goal) ≡ Some i → Some proc ≡ visible_in (linked b).rows a.setting.lookup.0 i → IsProcedureOf b p a proc
+pub procedure_seen : (b : CompiledProgram) (p : Path) (a : Active) (i : Indicator ℕ) (proc : ℕ) → IsCompiled b → indicator_of (tree_at (state_of p) a.goal) ≡ Some i → Some proc ≡ visible_in (linked b).rows a.setting.lookup.0 i → IsProcedureOf b p a proc
 procedure_seen b p a i proc lib is seen =
     let found = visible_is (linked b) a.setting.lookup.0 i proc lib.facts (sym seen) in
     record {

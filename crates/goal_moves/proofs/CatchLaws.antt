@@ -5,33 +5,33 @@ use Rattle.std.proofs.lemmas.List.{map-append}
 use Rattle.pl_terms.specs.Trees.{Tree}
 use Rattle.pl_terms.specs.Occurrence.{canon}
 use Rattle.pl_atoms.specs.declared.names.NameId.{NameId}
-use Rattle.run_model.specs.Substitution.{apply}
-use Rattle.run_model.specs.Mgu.{mgu, unifier}
-use Rattle.run_model.proofs.LawProofs.{Solved-idempotent}
-use Rattle.run_model.proofs.MguProofs.{Solved-mgu}
-use Rattle.run_model.specs.UnifierLaws.{IsIdempotent}
+use Rattle.unifier_model.specs.Substitution.{apply}
+use Rattle.unifier_model.specs.Mgu.{mgu, unifier}
+use Rattle.unifier_model.proofs.LawProofs.{Solved-idempotent}
+use Rattle.unifier_model.proofs.MguProofs.{Solved-mgu}
+use Rattle.unifier_model.specs.UnifierLaws.{IsIdempotent}
 use Rattle.pl_unify.specs.declared.word.Ref.{Ref}
 use Rattle.pl_unify.specs.State.{Stored, state_at, tree_at, IsRef, IsStore, Extends, Grows}
 use Rattle.pl_unify.specs.Steps.{NotUnified}
-use Rattle.search_theory.specs.Search.{At, Over, Thrown, Catches, Language, PointOf, FrameOf, has, pops}
-use Rattle.search_theory.specs.Configurations.{Configuration, Falling, Turns}
-use Rattle.search_theory.proofs.TurnLaws.{turns_then, turns_same, turn_throw_on, turn_caught}
+use Rattle.solver_model.specs.Search.{At, Over, Thrown, Catches, Language, PointOf, FrameOf, has, pops}
+use Rattle.solver_model.specs.Configurations.{Configuration, Falling, Turns}
+use Rattle.solver_model.proofs.TurnLaws.{turns_then, turns_same, turn_throw_on, turn_caught}
 use Rattle.goal_model.specs.Bodies.{goal_of, flat}
 use Rattle.goal_model.specs.Table.{Items, World, Recovery, copy_from, variable_count, item_under, recovered, recovery_point}
 use Rattle.pl_store.specs.Runs.{program_of}
-use Rattle.goal_frames.specs.declared.frames.Setting.{Setting}
-use Rattle.goal_frames.specs.Frames.{place_get, env_of, items_of}
-use Rattle.goal_frames.proofs.FrameLaws.{items_take}
-use Rattle.goal_records.specs.declared.choice.Choice.{Choice}
-use Rattle.goal_records.specs.declared.choice.ChoiceKind.TheVariants.{Catch}
-use Rattle.goal_records.specs.declared.library.Library.{Library}
-use Rattle.goal_records.specs.declared.path.Path.{Path}
-use Rattle.goal_records.specs.Denotation.{bodies, linked, naming, language_of, state_of, answers_of, items_here, world_here, frames_on, frame_from, setting_in, search_at, point_here, first}
-use Rattle.goal_records.specs.Well.{KindFits, IsWell, IsWellWith}
-use Rattle.goal_records.proofs.PathLaws.{grown_frames_on, grown_well}
-use Rattle.goal_terms.specs.Calling.{IsCalled}
-use Rattle.goal_terms.specs.declared.calling.Called.{Called}
-use Rattle.goal_terms.specs.declared.calling.Called.TheVariants as C
+use Rattle.goal_state.specs.declared.frames.Setting.{Setting}
+use Rattle.goal_state.specs.Frames.{place_get, env_of, items_of}
+use Rattle.goal_state.proofs.FrameLaws.{items_take}
+use Rattle.goal_state.specs.declared.choice.Choice.{Choice}
+use Rattle.goal_state.specs.declared.choice.ChoiceKind.TheVariants.{Catch}
+use Rattle.goal_state.specs.declared.compiled.CompiledProgram.{CompiledProgram}
+use Rattle.goal_state.specs.declared.path.Path.{Path}
+use Rattle.goal_state.specs.Denotation.{bodies, linked, naming, language_of, state_of, answers_of, items_here, world_here, frames_on, frame_from, setting_in, search_at, point_here, first}
+use Rattle.goal_state.specs.Well.{KindFits, IsWell, IsWellWith}
+use Rattle.goal_state.proofs.PathLaws.{grown_frames_on, grown_well}
+use Rattle.goal_constructs.specs.Calling.{IsCalled}
+use Rattle.goal_constructs.specs.declared.calling.Called.{Called}
+use Rattle.goal_constructs.specs.declared.calling.Called.TheVariants as C
 use Rattle.goal_moves.specs.declared.active.Rest.{Rest}
 use Rattle.goal_moves.specs.Moves.{search_with, resumed, Entered, here}
 use Rattle.goal_moves.specs.Throwing.{exits_here, Meets, Leads, Passed, Taken, Hands, GoesOn, Recovered, Recovers}
@@ -48,7 +48,7 @@ mgu_twice : (es : List (Tree ℕ × Tree ℕ)) → IsIdempotent (mgu es)
 mgu_twice es = Solved-idempotent es (mgu es) (Solved-mgu es)
 
 -- the recovery is a goal, which goes on in the setting of its catch
-pub recovers_goal : (b : Library) (p new : Path) (c : Choice) (goal : Ref) (rest : Rest) (st : Setting) (called : Called) → GoesOn p c rest → st ≡ setting_in (place_get (reverse p.frames) c.rest)
+pub recovers_goal : (b : CompiledProgram) (p new : Path) (c : Choice) (goal : Ref) (rest : Rest) (st : Setting) (called : Called) → GoesOn p c rest → st ≡ setting_in (place_get (reverse p.frames) c.rest)
     → Entered b (record p { depth = c.depth + 1 }) new rest (here new) (flat (naming b) (tree_at (state_of p) goal) (env_of st) (c.depth + 1) ++ items_here b p rest.f rest.pc) → called ≡ C.Goal goal → Recovers b p new c called P.Takes
 recovers_goal b p new c goal rest st called same is entered e =
     subst (λ k. Recovers b p new c k P.Takes) (sym e) (record {
@@ -58,7 +58,7 @@ recovers_goal b p new c goal rest st called same is entered e =
     })
 
 -- a path that went back to a catch that is active for a ball
-module _ (b : Library) (p q : Path) (c : Choice) (name : NameId) (catcher recovery : Ref) (is : c.kind ≡ Catch name catcher recovery) (w : IsWellWith b p (c ∷ reverse p.choices.items) p.depth)
+module _ (b : CompiledProgram) (p q : Path) (c : Choice) (name : NameId) (catcher recovery : Ref) (is : c.kind ≡ Catch name catcher recovery) (w : IsWellWith b p (c ∷ reverse p.choices.items) p.depth)
     (state : state_of q ≡ state_at c.mark (state_of p)) (frames : q.frames ≡ take c.rest p.frames) (others : q ≡ record p { store = q.store; frames = q.frames }) where
   abbrev L : Language
   L = language_of b

@@ -5,23 +5,23 @@ use Rattle.pl_terms.specs.Occurrence.{canon}
 use Rattle.pl_atoms.specs.declared.names.NameId.{NameId}
 use Rattle.pl_unify.specs.declared.word.Ref.{Ref}
 use Rattle.pl_unify.specs.State.{tree_at, IsRef}
-use Rattle.search_theory.specs.Search.{Pop, At, Over, Opens, Catches, Thrown, FrameOf, pops}
+use Rattle.solver_model.specs.Search.{Pop, At, Over, Opens, Catches, Thrown, FrameOf, pops}
 use Rattle.goal_model.specs.Bodies.{flat}
 use Rattle.goal_model.specs.Environments.{argument_place}
 use Rattle.goal_model.specs.Rows.{catching, row_of}
 use Rattle.goal_model.specs.Table.{Items, Moved as Activation, place, caught}
-use Rattle.goal_frames.specs.declared.frames.Setting.{Setting}
-use Rattle.goal_frames.specs.Frames.{env_of, items_of}
-use Rattle.goal_records.specs.declared.choice.ChoiceKind.TheVariants.{Catch}
-use Rattle.goal_records.specs.declared.library.Library.{Library}
-use Rattle.goal_records.specs.declared.path.Path.{Path}
-use Rattle.goal_records.specs.Denotation.{bodies, linked, naming, language_of, state_of, items_here, world_here, world_of}
-use Rattle.goal_records.specs.Well.{IsWell}
-use Rattle.goal_records.specs.Steps.{link_to}
-use Rattle.goal_records.proofs.PathLaws.{opened_frames_on, put_within}
-use Rattle.goal_terms.specs.Calling.{IsCalled}
-use Rattle.goal_terms.specs.declared.calling.Called.{Called}
-use Rattle.goal_terms.specs.declared.calling.Called.TheVariants as C
+use Rattle.goal_state.specs.declared.frames.Setting.{Setting}
+use Rattle.goal_state.specs.Frames.{env_of, items_of}
+use Rattle.goal_state.specs.declared.choice.ChoiceKind.TheVariants.{Catch}
+use Rattle.goal_state.specs.declared.compiled.CompiledProgram.{CompiledProgram}
+use Rattle.goal_state.specs.declared.path.Path.{Path}
+use Rattle.goal_state.specs.Denotation.{bodies, linked, naming, language_of, state_of, items_here, world_here, world_of}
+use Rattle.goal_state.specs.Well.{IsWell}
+use Rattle.goal_state.specs.Steps.{link_to}
+use Rattle.goal_state.proofs.PathLaws.{opened_frames_on, put_within}
+use Rattle.goal_constructs.specs.Calling.{IsCalled}
+use Rattle.goal_constructs.specs.declared.calling.Called.{Called}
+use Rattle.goal_constructs.specs.declared.calling.Called.TheVariants as C
 use Rattle.goal_moves.specs.declared.active.Rest.{Rest}
 use Rattle.goal_moves.specs.declared.active.Active.{Active}
 use Rattle.goal_moves.specs.declared.going.Going.{Going}
@@ -36,7 +36,7 @@ use Rattle.goal_moves.proofs.TakenMoves.{grown_steady, grown_rest}
 use Rattle.goal_moves.proofs.ArgumentMoves.{name_at, taken_at}
 
 -- what a catch leaves as its record
-abbrev pub catch_frame : (b : Library) → Path → Active → Ref → Ref → FrameOf (language_of b)
+abbrev pub catch_frame : (b : CompiledProgram) → Path → Active → Ref → Ref → FrameOf (language_of b)
 catch_frame b p a catcher recovery = Catches a.node (record {
   depth = a.node;
   catcher = tree_at (state_of p) catcher;
@@ -47,7 +47,7 @@ catch_frame b p a catcher recovery = Catches a.node (record {
   world = world_here b p;
 })
 
-module _ (b : Library) (old p : Path) (a : Active) (ready : IsReady b old a) (g : Grew old p) (name : NameId) (catcher recovery : Ref) (catcher_is : IsRef (state_of old) catcher) (recovery_is : IsRef (state_of old) recovery) (name_is : name.0 ≡ name_at b old a)
+module _ (b : CompiledProgram) (old p : Path) (a : Active) (ready : IsReady b old a) (g : Grew old p) (name : NameId) (catcher recovery : Ref) (catcher_is : IsRef (state_of old) catcher) (recovery_is : IsRef (state_of old) recovery) (name_is : name.0 ≡ name_at b old a)
     (depth : ℕ) (inner : Setting) (deep : depth ≡ a.node + 1) (inner_is : inner ≡ record a.setting { lookup = a.setting.context; depth = depth }) (q : Path) (o : OpenedHere p q (Catch name catcher recovery) a.rest.f a.rest.pc inner a.node) where
   more_cells : (r : Ref) → IsRef (state_of old) r → IsRef (state_of p) r
   more_cells r le = let more = g.grows.extends.more_cells in omega (arith, le, more)

@@ -6,8 +6,8 @@ use Rattle.std.proofs.lemmas.List.{get_or_past, length-reverse}
 use Rattle.pl_unify.specs.declared.word.Ref.{Ref}
 use Rattle.pl_unify.specs.Code.{code_tree, code_tree_in}
 use Rattle.pl_unify.specs.State.{tree_at, IsRef}
-use Rattle.search_theory.specs.Search.{Call, At}
-use Rattle.search_theory.specs.Configurations.{Tells}
+use Rattle.solver_model.specs.Search.{Call, At}
+use Rattle.solver_model.specs.Configurations.{Tells}
 use Rattle.goal_model.specs.Bodies.{Goal}
 use Rattle.goal_model.specs.Table.{Items, shown}
 use Rattle.pl_store.specs.Runs.{program_of}
@@ -17,18 +17,18 @@ use Rattle.goal_code.specs.Runs.{instruction_at, is_goal, next_of, goal_of, IsSo
 use Rattle.goal_code.specs.Settled.{AreSettled}
 use Rattle.goal_code.specs.Continuations.{Running, call_of, follow, items_from}
 use Rattle.goal_code.proofs.ContinuationLaws.{items_follow}
-use Rattle.goal_frames.specs.declared.frames.Frame.{Frame}
-use Rattle.goal_frames.specs.declared.frames.Setting.{Setting}
-use Rattle.goal_frames.specs.declared.frames.Part.TheVariants as P
-use Rattle.goal_frames.specs.Frames.{env_of, running, IsLinked}
-use Rattle.goal_frames.proofs.FrameLaws.{frames_read}
-use Rattle.goal_frames.proofs.PlaceLaws.{place_within}
-use Rattle.goal_frames.proofs.StoreLaws.{fits_read}
+use Rattle.goal_state.specs.declared.frames.Frame.{Frame}
+use Rattle.goal_state.specs.declared.frames.Setting.{Setting}
+use Rattle.goal_state.specs.declared.frames.Part.TheVariants as P
+use Rattle.goal_state.specs.Frames.{env_of, running, IsLinked}
+use Rattle.goal_state.proofs.FrameLaws.{frames_read}
+use Rattle.goal_state.proofs.FramePlaces.{place_within}
+use Rattle.goal_state.proofs.StoreLaws.{fits_read}
 use Rattle.clause_code.specs.Codes.{no_code}
-use Rattle.goal_records.specs.declared.library.Library.{Library}
-use Rattle.goal_records.specs.declared.path.Path.{Path}
-use Rattle.goal_records.specs.Denotation.{bodies, linked as linked_of, language_of, state_of, items_here, frames_on}
-use Rattle.goal_records.specs.Well.{IsLibrary, IsWellWith}
+use Rattle.goal_state.specs.declared.compiled.CompiledProgram.{CompiledProgram}
+use Rattle.goal_state.specs.declared.path.Path.{Path}
+use Rattle.goal_state.specs.Denotation.{bodies, linked as linked_of, language_of, state_of, items_here, frames_on}
+use Rattle.goal_state.specs.Well.{IsCompiled, IsWellWith}
 use Rattle.goal_moves.specs.declared.active.Active.{Active}
 use Rattle.goal_moves.specs.declared.going.Going.{Going}
 use Rattle.goal_moves.specs.Control.{Grew, GoalHere}
@@ -48,27 +48,27 @@ follow_goal r after outer (I.Either g l t n) more e = refl
 follow_goal r after outer (I.If g c m o n) more e = refl
 follow_goal r after outer (I.EndIf n) more e = cc
 
-module _ (b : Library) (p : Path) (c : Instruction) (st : Setting) (code : IsCode b p c st) where
+module _ (b : CompiledProgram) (p : Path) (c : Instruction) (st : Setting) (code : IsCode b p c st) where
   pub clause_there : st.clause < length b.codes
   clause_there = elim (cases_lt st.clause (length b.codes)) [
     | inl lt ↦ lt
     | inr ge ↦ absurd (no_instruction p.pc c (sym (ap (λ k. instruction_at k.goals.code p.pc) (get_or_past b.codes st.clause no_code ge)) ∙ code.code))
   ]
 
-  pub code_sound : IsLibrary b → IsSound b.constructs.names.control (bodies b st.clause).words (bodies b st.clause).code
-  code_sound library =
-      let count = library.codes.count in
+  pub code_sound : IsCompiled b → IsSound b.constructs.names.control (bodies b st.clause).words (bodies b st.clause).code
+  code_sound compiled =
+      let count = compiled.codes.count in
       let lt = clause_there in
-      (library.codes.each st.clause (omega (arith, count, lt))).goals.sound
+      (compiled.codes.each st.clause (omega (arith, count, lt))).goals.sound
 
-  pub code_settled : IsLibrary b → AreSettled b.constructs.names.control (bodies b st.clause).words (bodies b st.clause).code
-  code_settled library =
-      let count = library.codes.count in
+  pub code_settled : IsCompiled b → AreSettled b.constructs.names.control (bodies b st.clause).words (bodies b st.clause).code
+  code_settled compiled =
+      let count = compiled.codes.count in
       let lt = clause_there in
-      (library.codes.each st.clause (omega (arith, count, lt))).each_settled
+      (compiled.codes.each st.clause (omega (arith, count, lt))).each_settled
 
-  pub goal_there : IsLibrary b → goal_of c < length (bodies b st.clause).words
-  goal_there library = ((code_sound library p.pc c code.code).1 code.goal).0
+  pub goal_there : IsCompiled b → goal_of c < length (bodies b st.clause).words
+  goal_there compiled = ((code_sound compiled p.pc c code.code).1 code.goal).0
 
   pub code_base : (d : ℕ) → IsWellWith b p (reverse p.choices.items) d → st.base ≤ (state_of p).next
   code_base d w = (fits_read (state_of p) p.f p.frames (record { parent = code.parent; ppc = code.ppc; part = P.Body; setting = st }) w.frames code.frame).0
@@ -80,26 +80,26 @@ module _ (b : Library) (p : Path) (c : Instruction) (st : Setting) (code : IsCod
   abbrev pub first_goal : Goal ℕ
   first_goal = record { tree = code_tree_in (state_of p) st.base (bodies b st.clause).words (goal_of c); env = env_of st; reach = st.depth }
 
-  pub first_items : IsLibrary b → IsLinked p.frames → items_here b p p.f p.pc ≡ Call first_goal ∷ items_here b p p.f (next_of c)
-  first_items library linked =
+  pub first_items : IsCompiled b → IsLinked p.frames → items_here b p p.f p.pc ≡ Call first_goal ∷ items_here b p p.f (next_of c)
+  first_items compiled linked =
       let fr : Frame = record { parent = code.parent; ppc = code.ppc; part = P.Body; setting = st } in
       let after : Items ℕ = items_here b p code.parent code.ppc in
       let outer : ℕ → Items ℕ = items_here b p code.parent in
       let r : Running = running (bodies b) (state_of p) st in
       frames_read (bodies b) (state_of p) p.frames p.f p.pc fr linked code.frame
-      ∙ items_follow r b.constructs.names.control after outer p.pc c (code_sound library) code.code
+      ∙ items_follow r b.constructs.names.control after outer p.pc c (code_sound compiled) code.code
       ∙ follow_goal r after outer c (items_from r after outer) code.goal
       ∙ ap (λ l. Call first_goal ∷ l) (sym (frames_read (bodies b) (state_of p) p.frames p.f (next_of c) fr linked code.frame))
 
   -- the goal was put into the store
-  pub goal_placed : (q : Path) (node : ℕ) (at : Ref) (f pc next : ℕ) → IsLibrary b → IsLinked p.frames → IsWellWith b p (reverse p.choices.items) node → p.depth ≡ node + 1 → Grew p q
+  pub goal_placed : (q : Path) (node : ℕ) (at : Ref) (f pc next : ℕ) → IsCompiled b → IsLinked p.frames → IsWellWith b p (reverse p.choices.items) node → p.depth ≡ node + 1 → Grew p q
       → IsRef (state_of q) at → tree_at (state_of q) at ≡ code_tree_in (state_of p) st.base (bodies b st.clause).words (goal_of c)
       → next ≡ next_of c → items_here b p f pc ≡ items_here b p p.f next → f ≤ p.f
       → GoalHere b p q node (record { goal = at; setting = st; rest = record { f = f; pc = pc }; node = node })
-  goal_placed q node at f pc next library linked well deep g place tree next_is items low =
+  goal_placed q node at f pc next compiled linked well deep g place tree next_is items low =
       let s : Steady b p q node (frames_on b p (reverse p.choices.items)) = steady_grown b p q g p node (frames_on b p (reverse p.choices.items)) (steady_here b p node well) in
       let rest : items_here b q f pc ≡ items_here b p p.f (next_of c) = grown_items b p q g node f pc well ∙ items ∙ ap (items_here b p p.f) next_is in
-      let stands = first_items library linked in
+      let stands = first_items compiled linked in
       record {
         ready = record {
           well = s.well;
@@ -120,7 +120,7 @@ module _ (b : Library) (p : Path) (c : Instruction) (st : Setting) (code : IsCod
       }
 
 -- an activation from there is one from before
-pub activated_here : (b : Library) (old mid new : Path) (node : ℕ) (a : Active) (before after : List ℕ) (g : Going) → GoalHere b old mid node a
+pub activated_here : (b : CompiledProgram) (old mid new : Path) (node : ℕ) (a : Active) (before after : List ℕ) (g : Going) → GoalHere b old mid node a
     → Activated b mid new (called b mid a.node (goal_items b mid a)) before after g → Activated b old new (called b old node (items_here b old old.f old.pc)) before after g
 activated_here b old mid new node a before after g h m = record {
   bytes = m.bytes;
@@ -132,7 +132,7 @@ activated_here b old mid new node a before after g h m = record {
 }
 
 -- what is left untried is so too
-pub leaves_here : (b : Library) (old mid new : Path) (node : ℕ) (a : Active) → GoalHere b old mid node a → Leaves b mid new (called b mid a.node (goal_items b mid a)) → Leaves b old new (called b old node (items_here b old old.f old.pc))
+pub leaves_here : (b : CompiledProgram) (old mid new : Path) (node : ℕ) (a : Active) → GoalHere b old mid node a → Leaves b mid new (called b mid a.node (goal_items b mid a)) → Leaves b old new (called b old node (items_here b old old.f old.pc))
 leaves_here b old mid new node a h m = λ left.
     ap (λ cs. nat_lt (length cs.items) (length new.choices.items)) (sym h.choices)
     ∙ m left

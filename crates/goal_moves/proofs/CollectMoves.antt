@@ -4,29 +4,29 @@ use Rattle.std.proofs.lemmas.List.{append-nil, length-append, length-take}
 use Rattle.pl_terms.specs.Trees.{Tree}
 use Rattle.pl_unify.specs.declared.word.Ref.{Ref}
 use Rattle.pl_unify.specs.State.{State, tree_at, IsRef}
-use Rattle.search_theory.specs.Search.{At, Opens, Collects, FrameOf}
-use Rattle.search_theory.proofs.TurnLaws.{turns_then, turns_same}
+use Rattle.solver_model.specs.Search.{At, Opens, Collects, FrameOf}
+use Rattle.solver_model.proofs.TurnLaws.{turns_then, turns_same}
 use Rattle.builtin_model.specs.Lists.{listing}
 use Rattle.goal_model.specs.Bodies.{flat, goal_of}
 use Rattle.goal_model.specs.Environments.{argument_place}
 use Rattle.goal_model.specs.Rows.{collecting, row_of, name_of, arity_of}
 use Rattle.goal_model.specs.Table.{Items, World, Moved as Activation, place, unless_raised, raised, list_fault}
-use Rattle.goal_frames.specs.declared.frames.Setting.{Setting}
-use Rattle.goal_frames.specs.Frames.{env_of, items_of, FramesFit}
-use Rattle.goal_frames.proofs.FrameLaws.{nothing_outside}
-use Rattle.goal_frames.proofs.PlaceLaws.{place_zero}
-use Rattle.goal_frames.proofs.StoreLaws.{fits_take}
-use Rattle.goal_records.specs.declared.choice.Choice.{Choice}
-use Rattle.goal_records.specs.declared.choice.ChoiceKind.TheVariants.{Collect}
-use Rattle.goal_records.specs.declared.library.Library.{Library}
-use Rattle.goal_records.specs.declared.path.Path.{Path}
-use Rattle.goal_records.specs.Denotation.{bodies, linked, naming, language_of, state_of, answers_of, items_here, world_here, world_of, frames_on, frames_by, point_here, search_at}
-use Rattle.goal_records.specs.Well.{IsWellWith, Stands, Stand, KindFits, TemplateFits, mark_of, floor_of}
-use Rattle.goal_records.specs.Steps.{link_to}
-use Rattle.goal_records.proofs.PathLaws.{put_within, put_well, put_frames_on, opened_choices}
-use Rattle.goal_records.proofs.RecordLaws.{stand_wider}
-use Rattle.goal_terms.specs.Calling.{IsCalled}
-use Rattle.goal_terms.specs.declared.calling.Called.{Called}
+use Rattle.goal_state.specs.declared.frames.Setting.{Setting}
+use Rattle.goal_state.specs.Frames.{env_of, items_of, FramesFit}
+use Rattle.goal_state.proofs.FrameLaws.{nothing_outside}
+use Rattle.goal_state.proofs.FramePlaces.{place_zero}
+use Rattle.goal_state.proofs.StoreLaws.{fits_take}
+use Rattle.goal_state.specs.declared.choice.Choice.{Choice}
+use Rattle.goal_state.specs.declared.choice.ChoiceKind.TheVariants.{Collect}
+use Rattle.goal_state.specs.declared.compiled.CompiledProgram.{CompiledProgram}
+use Rattle.goal_state.specs.declared.path.Path.{Path}
+use Rattle.goal_state.specs.Denotation.{bodies, linked, naming, language_of, state_of, answers_of, items_here, world_here, world_of, frames_on, frames_by, point_here, search_at}
+use Rattle.goal_state.specs.Well.{IsWellWith, Stands, Stand, KindFits, TemplateFits, mark_of, floor_of}
+use Rattle.goal_state.specs.Steps.{link_to}
+use Rattle.goal_state.proofs.PathLaws.{put_within, put_well, put_frames_on, opened_choices}
+use Rattle.goal_state.proofs.RecordLaws.{stand_wider}
+use Rattle.goal_constructs.specs.Calling.{IsCalled}
+use Rattle.goal_constructs.specs.declared.calling.Called.{Called}
 use Rattle.goal_moves.specs.declared.active.Active.{Active}
 use Rattle.goal_moves.specs.declared.going.Going.TheVariants.{On}
 use Rattle.goal_moves.specs.Control.{Grew, OpenedHere, activation}
@@ -37,7 +37,7 @@ use Rattle.goal_moves.proofs.Turning.{stack_of, at_point, acts, reach_open}
 use Rattle.goal_moves.proofs.TakenMoves.{grown_steady, grown_rest}
 use Rattle.goal_moves.proofs.ArgumentMoves.{name_at, arity_at, taken_at}
 
-module _ (b : Library) (old p : Path) (a : Active) (ready : IsReady b old a) (g : Grew old p) (template goal list : Ref)
+module _ (b : CompiledProgram) (old p : Path) (a : Active) (ready : IsReady b old a) (g : Grew old p) (template goal list : Ref)
     (template_is : IsRef (state_of old) template) (list_is : IsRef (state_of old) list)
     (q : Path) (o : OpenedHere p q (Collect list p.template) a.rest.f a.rest.pc a.setting a.node)
     (G : Vec (Vec (Tree ℕ) Global) Global) (v : Vec (Tree ℕ) Global) (none : v.items ≡ []) (pushed : G.items ≡ q.gathered.items ++ v ∷ []) where
@@ -187,7 +187,7 @@ module _ (b : Library) (old p : Path) (a : Active) (ready : IsReady b old a) (g 
 
 -- ---- what findall does
 
-module _ (b : Library) (old : Path) (a : Active) (template goal list : Ref) where
+module _ (b : CompiledProgram) (old : Path) (a : Active) (template goal list : Ref) where
   abbrev goal_or : Tree ℕ → Result (Tree ℕ) (Tree ℕ) → Activation ℕ
   goal_or z taken =
       unless_raised taken (items_here b old a.rest.f a.rest.pc) (λ t.
@@ -219,7 +219,7 @@ module _ (b : Library) (old : Path) (a : Active) (template goal list : Ref) wher
   goal_opened t row is taken = acts_collecting row ∙ ap list_or is ∙ ap (goal_or (tree_at (state_of old) list)) taken
 
 -- what a goal was taken for later
-pub taken_after : (b : Library) (old p q : Path) (a : Active) (ready : IsReady b old a) (g : Grew old p) (goal : Ref) (goal_is : IsRef (state_of old) goal) (c : Called) → IsCalled (state_of q) (taken_at b p a goal) c → IsCalled (state_of q) (taken_at b old a goal) c
+pub taken_after : (b : CompiledProgram) (old p q : Path) (a : Active) (ready : IsReady b old a) (g : Grew old p) (goal : Ref) (goal_is : IsRef (state_of old) goal) (c : Called) → IsCalled (state_of q) (taken_at b p a goal) c → IsCalled (state_of q) (taken_at b old a goal) c
 taken_after b old p q a ready g goal goal_is c is =
     let t : tree_at (state_of p) goal ≡ tree_at (state_of old) goal = g.grows.places goal goal_is in
     let u : tree_at (state_of p) a.goal ≡ tree_at (state_of old) a.goal = g.grows.places a.goal ready.goal in

@@ -2,16 +2,16 @@
 use Rattle.std.proofs.Common.{◌≡◌, ℕ, ◌+◌, ◌≤◌, ◌∷◌, ◌++◌, Result, Ok, Err, IfOk, OnOk, sym, ap, ◌∙◌, subst, length, reverse}
 use Rattle.pl_unify.specs.declared.word.Ref.{Ref}
 use Rattle.pl_unify.specs.State.{tree_at, IsRef}
-use Rattle.search_theory.specs.Search.{Cut}
+use Rattle.solver_model.specs.Search.{Cut}
 use Rattle.goal_model.specs.Bodies.{flat}
 use Rattle.goal_model.specs.Environments.{argument_place}
 use Rattle.goal_model.specs.Table.{Items}
-use Rattle.goal_frames.specs.declared.frames.Setting.{Setting}
-use Rattle.goal_frames.specs.Frames.{env_of}
-use Rattle.goal_records.specs.declared.library.Library.{Library}
-use Rattle.goal_records.specs.declared.path.Path.{Path}
-use Rattle.goal_records.specs.Denotation.{naming, state_of, items_here}
-use Rattle.goal_records.specs.Well.{IsWellWith, floor_of}
+use Rattle.goal_state.specs.declared.frames.Setting.{Setting}
+use Rattle.goal_state.specs.Frames.{env_of}
+use Rattle.goal_state.specs.declared.compiled.CompiledProgram.{CompiledProgram}
+use Rattle.goal_state.specs.declared.path.Path.{Path}
+use Rattle.goal_state.specs.Denotation.{naming, state_of, items_here}
+use Rattle.goal_state.specs.Well.{IsWellWith, floor_of}
 use Rattle.goal_moves.specs.declared.active.Rest.{Rest}
 use Rattle.goal_moves.specs.declared.active.Active.{Active}
 use Rattle.goal_moves.specs.Moves.{Entered, here}
@@ -27,7 +27,7 @@ IfOk-then (Ok x) h f = f x h
 IfOk-then (Err e) h f = tt
 
 -- what a call owes after goals were put before what is to be run
-module _ (b : Library) (p q : Path) (rest at : Rest) (items : Items ℕ) (h : Entered b p q rest at items) where
+module _ (b : CompiledProgram) (p q : Path) (rest at : Rest) (items : Items ℕ) (h : Entered b p q rest at items) where
   pub after_floor : (d : ℕ) → IsWellWith b p (reverse p.choices.items) d → floor_of (reverse q.choices.items) ≤ length q.frames
   after_floor d w = floor_fits b q d (h.well d w)
 
@@ -40,17 +40,17 @@ module _ (b : Library) (p q : Path) (rest at : Rest) (items : Items ℕ) (h : En
   pub after_tree : (r : Ref) → tree_at (state_of q) r ≡ tree_at (state_of p) r
   after_tree r = ap (λ s. tree_at s r) (entered_state b p q rest at items h)
 
-abbrev pub entered_items : (b : Library) → Path → Ref → Setting → Items ℕ → Items ℕ
+abbrev pub entered_items : (b : CompiledProgram) → Path → Ref → Setting → Items ℕ → Items ℕ
 entered_items b p body st after = flat (naming b) (tree_at (state_of p) body) (env_of st) st.depth ++ after
 
 -- a cut that was put before what is to be run
-abbrev pub Cutting : (b : Library) → Path → Path → Rest → Rest → Setting → Type 0
+abbrev pub Cutting : (b : CompiledProgram) → Path → Path → Rest → Rest → Setting → Type 0
 Cutting b p q rest at st = Entered b p q rest at (Cut st.depth ∷ items_here b p rest.f rest.pc)
 
-abbrev pub Goals : (b : Library) → Path → Path → Rest → Ref → Setting → Type 0
+abbrev pub Goals : (b : CompiledProgram) → Path → Path → Rest → Ref → Setting → Type 0
 Goals b p q rest term st = Entered b p q rest (here q) (entered_items b p term st (items_here b p rest.f rest.pc))
 
-pub entered_committing : (b : Library) (p q r : Path) (a : Active) (body : Ref) (after cut : Rest) (depth : ℕ) (inner outer : Setting) → depth ≡ a.node + 1 → inner ≡ record a.setting { lookup = a.setting.context; depth = depth } → outer ≡ record a.setting { depth = a.node }
+pub entered_committing : (b : CompiledProgram) (p q r : Path) (a : Active) (body : Ref) (after cut : Rest) (depth : ℕ) (inner outer : Setting) → depth ≡ a.node + 1 → inner ≡ record a.setting { lookup = a.setting.context; depth = depth } → outer ≡ record a.setting { depth = a.node }
     → Cutting b p q after cut outer → Goals b q r cut body inner
     → Entered b p r after (here r) (committing b p a body (items_here b p after.f after.pc))
 entered_committing b p q r a body after cut depth inner outer deep is out h k =
@@ -62,7 +62,7 @@ entered_committing b p q r a body after cut depth inner outer deep is out h k =
     ∙ ap (λ l. flat (naming b) (tree_at (state_of p) body) (argument_place (env_of a.setting)) (a.node + 1) ++ l) (h.goes ∙ ap (λ x. Cut x.depth ∷ items_here b p after.f after.pc) out) in
     entered_then b p q after cut cutting h r (here r) (committing b p a body (items_here b p after.f after.pc)) (subst (Entered b q r cut (here r)) same k)
 
-pub entered_condition : (b : Library) (p q r s : Path) (a : Active) (condition «then» : Ref) (cut : Rest) (depth : ℕ) (inner outer : Setting) → depth ≡ a.node + 1 → inner ≡ record a.setting { depth = depth } → outer ≡ record a.setting { depth = a.node }
+pub entered_condition : (b : CompiledProgram) (p q r s : Path) (a : Active) (condition «then» : Ref) (cut : Rest) (depth : ℕ) (inner outer : Setting) → depth ≡ a.node + 1 → inner ≡ record a.setting { depth = depth } → outer ≡ record a.setting { depth = a.node }
     → Goals b p q a.rest «then» a.setting → Cutting b q r (here q) cut outer → Goals b r s cut condition inner
     → Entered b p s a.rest (here s) (condition_items b p a condition «then» (items_here b p a.rest.f a.rest.pc))
 entered_condition b p q r s a condition «then» cut depth inner outer deep is out g h k =

@@ -5,9 +5,9 @@ use Rattle.std.proofs.lemmas.List.{take_more, take_all, map-append, drop_more}
 use Rattle.pl_terms.specs.Trees.{Tree, comp, nil, cons}
 use Rattle.pl_unify.specs.Prefix.{trees}
 use Rattle.builtin_model.specs.Lists.{list_tree}
-use Rattle.goal_records.specs.declared.library.Library.{Library}
-use Rattle.goal_records.specs.Denotation.{naming}
-use Rattle.goal_records.specs.Well.{IsLibrary}
+use Rattle.goal_state.specs.declared.compiled.CompiledProgram.{CompiledProgram}
+use Rattle.goal_state.specs.Denotation.{naming}
+use Rattle.goal_state.specs.Well.{IsCompiled}
 use Rattle.pl_unify.specs.declared.word.Ref.{Ref}
 use Rattle.pl_unify.specs.State.{State, tree_at, IsRef, Grows}
 use Rattle.pl_unify.specs.Making.{AreRefs}
@@ -61,12 +61,12 @@ ref_in s (r ∷ rs) zero d h lt = h.0
 ref_in s (r ∷ rs) (suc i) d h lt = ref_in s rs i d h.1 (omega (arith, lt))
 
 -- one more item in front
-pub listed_more : (b : Library) → IsLibrary b → (first s new : State) (items : List Ref) (left i : ℕ) (x list at d : Ref) → left ≡ i + 1 → left ≤ length items → AreRefs first items → x ≡ get_or items i d → Grows first s
+pub listed_more : (b : CompiledProgram) → IsCompiled b → (first s new : State) (items : List Ref) (left i : ℕ) (x list at d : Ref) → left ≡ i + 1 → left ≤ length items → AreRefs first items → x ≡ get_or items i d → Grows first s
     → tree_at s list ≡ list_tree (naming b) (map (tree_at first) (drop left items)) → tree_at new at ≡ comp b.constructs.names.dot.0 (trees (map (tree_at s) (x ∷ list ∷ [])))
     → tree_at new at ≡ list_tree (naming b) (map (tree_at first) (drop i items))
-listed_more b library first s new items left i x list at d split le refs is grows tree made =
+listed_more b compiled first s new items left i x list at d split le refs is grows tree made =
     let here : tree_at s x ≡ tree_at first (get_or items i d) = ap (tree_at s) is ∙ grows.places (get_or items i d) (ref_in first items i d refs (omega (arith, split, le))) in
-    let dot : b.constructs.names.dot.0 ≡ (naming b).name (codes ".") = sym library.constructs.names.dot.made in
+    let dot : b.constructs.names.dot.0 ≡ (naming b).name (codes ".") = sym compiled.constructs.names.dot.made in
     made
     ∙ ap (λ f. comp f (cons (tree_at s x) (cons (tree_at s list) nil))) dot
     ∙ ap (λ t. comp ((naming b).name (codes ".")) (cons t (cons (tree_at s list) nil))) here

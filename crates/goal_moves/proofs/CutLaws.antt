@@ -7,32 +7,32 @@ use Rattle.pl_terms.specs.Trees.{Tree}
 use Rattle.pl_unify.specs.declared.word.Ref.{Ref}
 use Rattle.pl_unify.specs.declared.store.Mark.{Mark}
 use Rattle.pl_unify.specs.State.{State, state_at, IsMark}
-use Rattle.search_theory.specs.Search.{FrameOf, depth_of}
-use Rattle.search_theory.specs.Frames.{below}
-use Rattle.search_theory.specs.Configurations.{Ungathered}
+use Rattle.solver_model.specs.Search.{FrameOf, depth_of}
+use Rattle.solver_model.specs.Frames.{below}
+use Rattle.solver_model.specs.Configurations.{Ungathered}
 use Rattle.goal_model.specs.Table.{Items}
 use Rattle.goal_model.specs.Environments.{Environment}
 use Rattle.pl_store.specs.Linked.{Linked}
-use Rattle.goal_frames.specs.declared.frames.Frame.{Frame}
-use Rattle.goal_records.specs.declared.choice.Choice.{Choice}
-use Rattle.goal_records.specs.declared.choice.ChoiceKind.{ChoiceKind}
-use Rattle.goal_records.specs.declared.choice.ChoiceKind.TheVariants.{Clauses, Branch, Catch, Collect}
-use Rattle.goal_records.specs.declared.library.Library.{Library}
-use Rattle.goal_records.specs.Denotation.{language_of, outer_of, outer_answers, first, frame_from, frame_by, frames_by}
-use Rattle.goal_records.specs.Well.{Stand, TemplateFits, floor_of, collects}
-use Rattle.goal_records.specs.Steps.{kept, template_kept, answers_kept}
-use Rattle.goal_records.proofs.RecordLaws.{stand_wider}
+use Rattle.goal_state.specs.declared.frames.Frame.{Frame}
+use Rattle.goal_state.specs.declared.choice.Choice.{Choice}
+use Rattle.goal_state.specs.declared.choice.ChoiceKind.{ChoiceKind}
+use Rattle.goal_state.specs.declared.choice.ChoiceKind.TheVariants.{Clauses, Branch, Catch, Collect}
+use Rattle.goal_state.specs.declared.compiled.CompiledProgram.{CompiledProgram}
+use Rattle.goal_state.specs.Denotation.{language_of, outer_of, outer_answers, first, frame_from, frame_by, frames_by}
+use Rattle.goal_state.specs.Well.{Stand, TemplateFits, floor_of, collects}
+use Rattle.goal_state.specs.Steps.{kept, template_kept, answers_kept}
+use Rattle.goal_state.proofs.RecordLaws.{stand_wider}
 
 -- ---- what the records stand for
 
-module _ (b : Library) (v : ℕ) where
+module _ (b : CompiledProgram) (v : ℕ) where
   kind_depth : (k : ChoiceKind) (d : ℕ) (s : State) (rest : Items ℕ) (env : Environment ℕ) (t : Option Ref) (answers : List (Tree ℕ)) → depth_of (frame_from b v k d s rest env t answers) ≡ d
   kind_depth (Clauses clause goal) d s rest env t answers = refl
   kind_depth Branch d s rest env t answers = refl
   kind_depth (Catch name catcher recovery) d s rest env t answers = refl
   kind_depth (Collect list outer) d s rest env t answers = refl
 
-module _ (b : Library) (v : ℕ) (s : State) (frames : List Frame) where
+module _ (b : CompiledProgram) (v : ℕ) (s : State) (frames : List Frame) where
   depth_same : (c : Choice) (t : Option Ref) (answers : List (Tree ℕ)) → depth_of (frame_by b v s frames c t answers) ≡ c.depth
   depth_same c t answers = kind_depth b v c.kind c.depth _ _ _ t answers
 

@@ -5,10 +5,10 @@ use Rattle.std.proofs.lemmas.Bool.{ltb-false}
 use Rattle.pl_terms.specs.Trees.{Tree}
 use Rattle.pl_unify.specs.declared.word.Ref.{Ref}
 use Rattle.pl_unify.specs.State.{State, state_at}
-use Rattle.search_theory.specs.Search.{Call, Cut, At, Over, Failed, Tries, FrameOf}
-use Rattle.search_theory.specs.Frames.{below}
-use Rattle.search_theory.specs.Configurations.{Configuration, Turns, Sane, Ungathered, value_of, weight}
-use Rattle.search_theory.proofs.TurnLaws.{turns_then, turn_call, turn_last, turn_cut}
+use Rattle.solver_model.specs.Search.{Call, Cut, At, Over, Failed, Tries, FrameOf}
+use Rattle.solver_model.specs.Frames.{below}
+use Rattle.solver_model.specs.Configurations.{Configuration, Turns, Sane, Ungathered, value_of, weight}
+use Rattle.solver_model.proofs.TurnLaws.{turns_then, turn_call, turn_last, turn_cut}
 use Rattle.goal_model.specs.Bodies.{Goal}
 use Rattle.goal_model.specs.Environments.{Environment}
 use Rattle.goal_model.specs.Rows.{commit, name_of, arity_of, row_of}
@@ -16,17 +16,17 @@ use Rattle.goal_model.specs.Table.{Items, on, row, place}
 use Rattle.goal_model.proofs.SaneProofs.{table_sane}
 use Rattle.goal_model.proofs.GuardProofs.{table_ok}
 use Rattle.pl_store.specs.Runs.{program_of}
-use Rattle.goal_frames.specs.declared.frames.Frame.{Frame}
-use Rattle.goal_frames.specs.Frames.{env_of, items_of}
-use Rattle.goal_records.specs.declared.choice.Choice.{Choice}
-use Rattle.goal_records.specs.declared.choice.ChoiceKind.{ChoiceKind}
-use Rattle.goal_records.specs.declared.choice.ChoiceKind.TheVariants.{Clauses, Branch, Catch, Collect}
-use Rattle.goal_records.specs.declared.library.Library.{Library}
-use Rattle.goal_records.specs.declared.path.Path.{Path}
-use Rattle.goal_records.specs.Denotation.{bodies, linked, naming, language_of, state_of, answers_of, items_here, world_here, world_of, frames_by, frame_from, outer_of, outer_answers, first, setting_at, point_here, search_at}
-use Rattle.goal_records.specs.Well.{IsWellWith}
-use Rattle.goal_records.specs.Steps.{kept, template_kept, answers_kept}
-use Rattle.goal_records.proofs.BackLaws.{cut_frames_on, cut_well}
+use Rattle.goal_state.specs.declared.frames.Frame.{Frame}
+use Rattle.goal_state.specs.Frames.{env_of, items_of}
+use Rattle.goal_state.specs.declared.choice.Choice.{Choice}
+use Rattle.goal_state.specs.declared.choice.ChoiceKind.{ChoiceKind}
+use Rattle.goal_state.specs.declared.choice.ChoiceKind.TheVariants.{Clauses, Branch, Catch, Collect}
+use Rattle.goal_state.specs.declared.compiled.CompiledProgram.{CompiledProgram}
+use Rattle.goal_state.specs.declared.path.Path.{Path}
+use Rattle.goal_state.specs.Denotation.{bodies, linked, naming, language_of, state_of, answers_of, items_here, world_here, world_of, frames_by, frame_from, outer_of, outer_answers, first, setting_at, point_here, search_at}
+use Rattle.goal_state.specs.Well.{IsWellWith}
+use Rattle.goal_state.specs.Steps.{kept, template_kept, answers_kept}
+use Rattle.goal_state.proofs.BackLaws.{cut_frames_on, cut_well}
 use Rattle.goal_moves.specs.declared.going.Going.TheVariants.{On}
 use Rattle.goal_moves.specs.Moves.{called, Moved}
 use Rattle.goal_moves.proofs.Steady.{well_deeper}
@@ -34,7 +34,7 @@ use Rattle.goal_moves.proofs.Turning.{at_point, stack_of}
 
 -- ---- the term that is collected is that of the records that are left, where no nested search is cut off
 
-outer_kept : (b : Library) (v : ℕ) (kind : ChoiceKind) (depth d : ℕ) (σ : State) (rest : Items ℕ) (env : Environment ℕ) (t u : Option Ref) (answers : List (Tree ℕ)) (fs : List (FrameOf (language_of b))) (x : Bool) → nat_lt depth d ≡ x
+outer_kept : (b : CompiledProgram) (v : ℕ) (kind : ChoiceKind) (depth d : ℕ) (σ : State) (rest : Items ℕ) (env : Environment ℕ) (t u : Option Ref) (answers : List (Tree ℕ)) (fs : List (FrameOf (language_of b))) (x : Bool) → nat_lt depth d ≡ x
     → (Ungathered (language_of b) d fs → u ≡ outer_of kind t) → Ungathered (language_of b) d (frame_from b v kind depth σ rest env t answers ∷ fs) → (if x then t else u) ≡ t
 outer_kept b v (Clauses c g) depth d σ rest env t u answers fs true e ih h = refl
 outer_kept b v (Clauses c g) depth d σ rest env t u answers fs false e ih h = ih h
@@ -45,7 +45,7 @@ outer_kept b v (Catch n c r) depth d σ rest env t u answers fs false e ih h = i
 outer_kept b v (Collect z o) depth d σ rest env t u answers fs true e ih h = refl
 outer_kept b v (Collect z o) depth d σ rest env t u answers fs false e ih h = let le = ltb-false depth d e in let lt = h.0 in absurd (omega (arith, le, lt))
 
-template_stays : (b : Library) (v : ℕ) (s : State) (frames : List Frame) (d : ℕ) (cs : List Choice) (t : Option Ref) (gs : List (List (Tree ℕ))) → Ungathered (language_of b) d (frames_by b v s frames cs t gs) → template_kept d cs t ≡ t
+template_stays : (b : CompiledProgram) (v : ℕ) (s : State) (frames : List Frame) (d : ℕ) (cs : List Choice) (t : Option Ref) (gs : List (List (Tree ℕ))) → Ungathered (language_of b) d (frames_by b v s frames cs t gs) → template_kept d cs t ≡ t
 template_stays b v s frames d [] t gs h = refl
 template_stays b v s frames d (c ∷ cs) t gs h =
     outer_kept b v c.kind c.depth d (state_at c.mark s) (items_of (bodies b) (state_at c.mark s) frames c.rest 0) (env_of (setting_at frames c.rest)) t (template_kept d cs (outer_of c.kind t)) (first gs)
@@ -53,7 +53,7 @@ template_stays b v s frames d (c ∷ cs) t gs h =
     (λ k. template_stays b v s frames d cs (outer_of c.kind t) (outer_answers c.kind gs) k) h
 
 -- a turn to what is the same where the search is in order
-turns_if : (b : Library) (x y z : Configuration (language_of b)) → Turns (language_of b) x y → (Sane (language_of b) x → y ≡ z) → z.left ≡ y.left → weight (language_of b) z ≡ weight (language_of b) y → Turns (language_of b) x z
+turns_if : (b : CompiledProgram) (x y z : Configuration (language_of b)) → Turns (language_of b) x y → (Sane (language_of b) x → y ≡ z) → z.left ≡ y.left → weight (language_of b) z ≡ weight (language_of b) y → Turns (language_of b) x z
 turns_if b x y z t same left heavy = record {
   value = λ s. sym (ap (value_of (language_of b)) (same s)) ∙ t.value s;
   sane = λ s. subst (Sane (language_of b)) (same s) (t.sane s);
@@ -62,7 +62,7 @@ turns_if b x y z t same left heavy = record {
 }
 
 -- a cut stands first: the records from its depth on are taken off
-module _ (b : Library) (old q : Path) (e : ℕ) (g : Goal ℕ) (rest : Items ℕ) (deep : old.depth ≡ e + 1) (well : IsWellWith b old (reverse old.choices.items) e)
+module _ (b : CompiledProgram) (old q : Path) (e : ℕ) (g : Goal ℕ) (rest : Items ℕ) (deep : old.depth ≡ e + 1) (well : IsWellWith b old (reverse old.choices.items) e)
     (choices : reverse q.choices.items ≡ kept g.reach (reverse old.choices.items)) (template : q.template ≡ template_kept g.reach (reverse old.choices.items) old.template) (answers : answers_of q ≡ answers_kept g.reach (reverse old.choices.items) (answers_of old))
     (others : q ≡ record old { choices = q.choices; template = q.template; gathered = q.gathered }) where
   start : ℕ → Configuration (language_of b)

@@ -4,34 +4,35 @@ use Rattle.std.specs.Prelude.{nat_eq}
 use Rattle.std.proofs.lemmas.Bool.{cases_lt}
 use Rattle.std.proofs.lemmas.List.{get_or_past}
 use Rattle.pl_unify.specs.State.{State}
-use Rattle.search_theory.specs.Search.{has, pops}
-use Rattle.search_theory.specs.Configurations.{Falling}
-use Rattle.search_theory.proofs.ExitLaws.{has-first, has-above, has-below}
-use Rattle.search_theory.proofs.TurnLaws.{below_wider}
+use Rattle.solver_model.specs.Search.{has, pops}
+use Rattle.solver_model.specs.Configurations.{Falling}
+use Rattle.solver_model.proofs.ExitLaws.{has-first, has-above, has-below}
+use Rattle.solver_model.proofs.TurnLaws.{below_wider}
 use Rattle.goal_model.specs.Table.{Items}
 use Rattle.goal_code.specs.declared.instruction.Instruction.{Instruction}
 use Rattle.goal_code.specs.declared.instruction.Instruction.TheVariants as I
 use Rattle.goal_code.specs.Runs.{instruction_at, next_of, IsSound}
 use Rattle.goal_code.specs.Continuations.{Running, follow, items_within, items_from}
 use Rattle.goal_code.proofs.ContinuationLaws.{items_follow}
-use Rattle.goal_frames.specs.declared.frames.Frame.{Frame}
-use Rattle.goal_frames.specs.declared.frames.Setting.{Setting}
-use Rattle.goal_frames.specs.declared.frames.Part.{Part}
-use Rattle.goal_frames.specs.declared.frames.Part.TheVariants as P
-use Rattle.goal_frames.specs.Frames.{ClauseCode, IsLinked, place_get, frame_items, items_at, items_of, running}
-use Rattle.goal_frames.proofs.FrameLaws.{frames_read, nothing_outside, parent_low}
+use Rattle.goal_state.specs.declared.frames.Frame.{Frame}
+use Rattle.goal_state.specs.declared.frames.Setting.{Setting}
+use Rattle.goal_state.specs.declared.frames.Part.{Part}
+use Rattle.goal_state.specs.declared.frames.Part.TheVariants as P
+use Rattle.goal_code.specs.BodyCode.{BodyCode}
+use Rattle.goal_state.specs.Frames.{IsLinked, place_get, frame_items, items_at, items_of, running}
+use Rattle.goal_state.proofs.FrameLaws.{frames_read, nothing_outside, parent_low}
 use Rattle.clause_code.specs.Codes.{no_code}
-use Rattle.goal_records.specs.declared.library.Library.{Library}
-use Rattle.goal_records.specs.declared.path.Path.{Path}
-use Rattle.goal_records.specs.Denotation.{bodies, language_of, state_of, items_here}
-use Rattle.goal_records.specs.Well.{IsLibrary}
+use Rattle.goal_state.specs.declared.compiled.CompiledProgram.{CompiledProgram}
+use Rattle.goal_state.specs.declared.path.Path.{Path}
+use Rattle.goal_state.specs.Denotation.{bodies, language_of, state_of, items_here}
+use Rattle.goal_state.specs.Well.{IsCompiled}
 use Rattle.goal_moves.specs.declared.active.Rest.{Rest}
 use Rattle.goal_moves.specs.declared.raising.Way.TheVariants as W
 use Rattle.goal_moves.specs.Throwing.{exits_here, Agrees, Wends, Leads}
 
 -- ---- they don't depend on the store
 
-module _ (p : ℕ → ClauseCode) (s t : State) where
+module _ (p : ℕ → BodyCode) (s t : State) where
   module _ (st : Setting) (after after2 : Items ℕ) (outer outer2 : ℕ → Items ℕ) (h : pops after ≡ pops after2) (k : (n : ℕ) → pops (outer n) ≡ pops (outer2 n)) where
     within-same : (fuel pc : ℕ) → pops (items_within (running p s st) after outer fuel pc) ≡ pops (items_within (running p t st) after2 outer2 fuel pc)
     within-same zero pc = h
@@ -80,9 +81,9 @@ no_instruction : (pc : ℕ) (c : Instruction) → instruction_at [] pc ≡ Some 
 no_instruction zero c e = cc
 no_instruction (suc k) c e = cc
 
-pub body_sound : (b : Library) → IsLibrary b → (k : ℕ) → IsSound b.constructs.names.control (bodies b k).words (bodies b k).code
-body_sound b library k = elim (cases_lt k (length b.codes)) [
-  | inl lt ↦ (let count = library.codes.count in (library.codes.each k (omega (arith, count, lt))).goals.sound)
+pub body_sound : (b : CompiledProgram) → IsCompiled b → (k : ℕ) → IsSound b.constructs.names.control (bodies b k).words (bodies b k).code
+body_sound b compiled k = elim (cases_lt k (length b.codes)) [
+  | inl lt ↦ (let count = compiled.codes.count in (compiled.codes.each k (omega (arith, count, lt))).goals.sound)
   | inr ge ↦ λ pc c is. absurd (no_instruction pc c (sym (ap (λ x. instruction_at x.goals.code pc) (get_or_past b.codes k no_code ge)) ∙ is))
 ]
 
@@ -102,24 +103,24 @@ module _ (r : Running) (outer : ℕ → Items ℕ) (after : Items ℕ) where
   follow_on (I.If g x m o n) more h = refl
   follow_on (I.EndIf n) more h = absurd (h n refl)
 
-pub body_on : (b : Library) → IsLibrary b → (s : State) (st : Setting) (outer : ℕ → Items ℕ) (after : Items ℕ) (pc : ℕ) (c : Instruction) → instruction_at (bodies b st.clause).code pc ≡ Some c → ((n : ℕ) → c ≡ I.EndIf n → ⊥)
+pub body_on : (b : CompiledProgram) → IsCompiled b → (s : State) (st : Setting) (outer : ℕ → Items ℕ) (after : Items ℕ) (pc : ℕ) (c : Instruction) → instruction_at (bodies b st.clause).code pc ≡ Some c → ((n : ℕ) → c ≡ I.EndIf n → ⊥)
     → pops (items_from (running (bodies b) s st) after outer pc) ≡ pops (items_from (running (bodies b) s st) after outer (next_of c))
-body_on b library s st outer after pc c is goal =
+body_on b compiled s st outer after pc c is goal =
     let r : Running = running (bodies b) s st in
-    ap pops (items_follow r b.constructs.names.control after outer pc c (body_sound b library st.clause) is) ∙ follow_on r outer after c (items_from r after outer) goal
+    ap pops (items_follow r b.constructs.names.control after outer pc c (body_sound b compiled st.clause) is) ∙ follow_on r outer after c (items_from r after outer) goal
 
-pub next_low : (b : Library) → IsLibrary b → (k pc : ℕ) (c : Instruction) → instruction_at (bodies b k).code pc ≡ Some c → next_of c < pc
-next_low b library k pc c is = (body_sound b library k pc c is).0
+pub next_low : (b : CompiledProgram) → IsCompiled b → (k pc : ℕ) (c : Instruction) → instruction_at (bodies b k).code pc ≡ Some c → next_of c < pc
+next_low b compiled k pc c is = (body_sound b compiled k pc c is).0
 
 -- ---- one step outward
 
-pub wends_down : (b : Library) (p : Path) (at next : Rest) (depth : ℕ) → next.f < at.f → exits_here b p at ≡ exits_here b p next → Wends b p at depth (W.Down next)
+pub wends_down : (b : CompiledProgram) (p : Path) (at next : Rest) (depth : ℕ) → next.f < at.f → exits_here b p at ≡ exits_here b p next → Wends b p at depth (W.Down next)
 wends_down b p at next depth low e = (low, (λ k lt. ap (λ l. has l k) e), λ f. subst (Falling (language_of b)) e f)
 
-pub wends_none : (b : Library) (p : Path) (at : Rest) (depth : ℕ) → place_get (reverse p.frames) at.f ≡ None → Wends b p at depth W.Past
+pub wends_none : (b : CompiledProgram) (p : Path) (at : Rest) (depth : ℕ) → place_get (reverse p.frames) at.f ≡ None → Wends b p at depth W.Past
 wends_none b p at depth is = λ f. ap (λ l. has (pops l) depth) (nothing_outside (bodies b) (state_of p) p.frames at.f at.pc is)
 
-module _ (b : Library) (p : Path) (at : Rest) (depth : ℕ) (fr : Frame) (linked : IsLinked p.frames) (is : place_get (reverse p.frames) at.f ≡ Some fr) where
+module _ (b : CompiledProgram) (p : Path) (at : Rest) (depth : ℕ) (fr : Frame) (linked : IsLinked p.frames) (is : place_get (reverse p.frames) at.f ≡ Some fr) where
   abbrev below : Rest
   below = record { f = fr.parent; pc = fr.ppc }
 
@@ -188,14 +189,14 @@ module _ (b : Library) (p : Path) (at : Rest) (depth : ℕ) (fr : Frame) (linked
 
 -- ---- all steps
 
-pub record Went (b : Library) (p : Path) (from at : Rest) (depth : ℕ) : Type 0 where
+pub record Went (b : CompiledProgram) (p : Path) (from at : Rest) (depth : ℕ) : Type 0 where
   pub agrees : Agrees (depth + 1) (exits_here b p from) (exits_here b p at)
   pub falls : Falling (language_of b) (exits_here b p from) → Falling (language_of b) (exits_here b p at)
 
-pub went_none : (b : Library) (p : Path) (from : Rest) (depth : ℕ) → Went b p from from depth
+pub went_none : (b : CompiledProgram) (p : Path) (from : Rest) (depth : ℕ) → Went b p from from depth
 went_none b p from depth = record { agrees = λ k lt. refl; falls = λ f. f }
 
-module _ (b : Library) (p : Path) (from at : Rest) (depth : ℕ) (w : Went b p from at depth) where
+module _ (b : CompiledProgram) (p : Path) (from at : Rest) (depth : ℕ) (w : Went b p from at depth) where
   pub went_down : (next : Rest) → Wends b p at depth (W.Down next) → Went b p from next depth
   went_down next h = record { agrees = λ k lt. w.agrees k lt ∙ h.1 k lt; falls = λ f. h.2 (w.falls f) }
 

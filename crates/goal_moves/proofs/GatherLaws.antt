@@ -2,28 +2,29 @@
 use Rattle.std.proofs.Common.{◌≡◌, ℕ, ◌+◌, ◌≤◌, List, [], ◌∷◌, Option, Some, None, refl, sym, ap, ◌∙◌, subst, arith, reverse, take, map}
 use Rattle.std.specs.Prelude.{nat_eq, MatchBool, Bool, true, false}
 use Rattle.pl_terms.specs.Trees.{Tree}
-use Rattle.run_model.specs.Substitution.{apply}
-use Rattle.run_model.specs.Mgu.{mgu, unifier}
+use Rattle.unifier_model.specs.Substitution.{apply}
+use Rattle.unifier_model.specs.Mgu.{mgu, unifier}
 use Rattle.pl_unify.specs.declared.word.Ref.{Ref}
 use Rattle.pl_unify.specs.State.{State, Stored, state_at, tree_at, IsRef, IsStore, Extends, Grows}
 use Rattle.pl_unify.specs.Steps.{Unified, NotUnified}
 use Rattle.pl_unify.proofs.StoreLaws.{Extends-trans}
-use Rattle.search_theory.specs.Search.{At, Over, Failed, Collects, PointOf, FrameOf, Language}
-use Rattle.search_theory.specs.Configurations.{Turns}
-use Rattle.search_theory.proofs.TurnLaws.{turns_then, turns_same, turn_gather}
+use Rattle.solver_model.specs.Search.{At, Over, Failed, Collects, PointOf, FrameOf, Language}
+use Rattle.solver_model.specs.Configurations.{Turns}
+use Rattle.solver_model.proofs.TurnLaws.{turns_then, turns_same, turn_gather}
 use Rattle.builtin_model.specs.Lists.{list_tree}
 use Rattle.goal_model.specs.Table.{Gathering, copies, answer_term, item_under, gathered}
 use Rattle.pl_store.specs.Runs.{program_of}
-use Rattle.goal_frames.specs.Frames.{ClauseCode, env_of, items_of}
-use Rattle.goal_records.specs.declared.choice.Choice.{Choice}
-use Rattle.goal_records.specs.declared.choice.ChoiceKind.{ChoiceKind}
-use Rattle.goal_records.specs.declared.choice.ChoiceKind.TheVariants.{Collect}
-use Rattle.goal_records.specs.declared.library.Library.{Library}
-use Rattle.goal_records.specs.declared.path.Path.{Path}
-use Rattle.goal_records.specs.Denotation.{linked, naming, language_of, state_of, answers_of, items_here, world_here, frames_on, frames_by, frame_from, rest_items, setting_at, outer_of, outer_answers, first, search_at}
-use Rattle.goal_records.specs.Well.{KindFits, IsWellWith}
-use Rattle.goal_records.proofs.PathLaws.{grown_frames_on, grown_well}
-use Rattle.goal_records.proofs.BindLaws.{grown_items, bound_items, bound_world, template_same}
+use Rattle.goal_code.specs.BodyCode.{BodyCode}
+use Rattle.goal_state.specs.Frames.{env_of, items_of}
+use Rattle.goal_state.specs.declared.choice.Choice.{Choice}
+use Rattle.goal_state.specs.declared.choice.ChoiceKind.{ChoiceKind}
+use Rattle.goal_state.specs.declared.choice.ChoiceKind.TheVariants.{Collect}
+use Rattle.goal_state.specs.declared.compiled.CompiledProgram.{CompiledProgram}
+use Rattle.goal_state.specs.declared.path.Path.{Path}
+use Rattle.goal_state.specs.Denotation.{linked, naming, language_of, state_of, answers_of, items_here, world_here, frames_on, frames_by, frame_from, rest_items, setting_at, outer_of, outer_answers, first, search_at}
+use Rattle.goal_state.specs.Well.{KindFits, IsWellWith}
+use Rattle.goal_state.proofs.PathLaws.{grown_frames_on, grown_well}
+use Rattle.goal_state.proofs.BindLaws.{grown_items, bound_items, bound_world, template_same}
 use Rattle.goal_moves.specs.Moves.{search_with, resumed, Moved}
 use Rattle.goal_moves.specs.declared.going.Going.TheVariants.{On, Fails}
 use Rattle.goal_moves.proofs.BackLaws.{back_well, back_frames, back_rest}
@@ -37,11 +38,11 @@ pub mgu_is : (es : List (Tree ℕ × Tree ℕ)) → mgu es ≡ unifier nat_eq es
 unfolding mgu
 mgu_is es = refl
 
-single : (b : Library) (A : List (Tree ℕ)) → map (answer_term (naming b)) (map (λ a. a ∷ []) A) ≡ A
+single : (b : CompiledProgram) (A : List (Tree ℕ)) → map (answer_term (naming b)) (map (λ a. a ∷ []) A) ≡ A
 single b [] = refl
 single b (a ∷ A) = ap (λ l. a ∷ l) (single b A)
 
-module _ (b : Library) (p q : Path) (c : Choice) (list : Ref) (outer : Option Ref) (is : c.kind ≡ Collect list outer) (d : ℕ) (w : IsWellWith b p (c ∷ reverse p.choices.items) d)
+module _ (b : CompiledProgram) (p q : Path) (c : Choice) (list : Ref) (outer : Option Ref) (is : c.kind ≡ Collect list outer) (d : ℕ) (w : IsWellWith b p (c ∷ reverse p.choices.items) d)
     (state : state_of q ≡ state_at c.mark (state_of p)) (frames : q.frames ≡ take c.rest p.frames) (template : q.template ≡ outer_of c.kind p.template) (gathered_is : answers_of q ≡ outer_answers c.kind (answers_of p))
     (others : q ≡ record p { store = q.store; frames = q.frames; template = q.template; gathered = q.gathered }) where
   abbrev A : List (Tree ℕ)
@@ -72,7 +73,7 @@ module _ (b : Library) (p q : Path) (c : Choice) (list : Ref) (outer : Option Re
   gathering f pc = record { depth = c.depth; list = tree_at (state_of q) list; rest = items_here b q f pc; world = world_here b q }
 
   abbrev GoesOn : ℕ → ℕ → Type 0
-  GoesOn f pc = (x : ℕ → ClauseCode) (s : State) → items_of x s q.frames f pc ≡ items_of x s q.frames c.rest 0
+  GoesOn f pc = (x : ℕ → BodyCode) (s : State) → items_of x s q.frames f pc ≡ items_of x s q.frames c.rest 0
 
   gather_frames : (f pc : ℕ) → GoesOn f pc → frames_on b p (c ∷ reverse p.choices.items) ≡ Collects c.depth (map (λ a. a ∷ []) A) (gathering f pc) ∷ frames_on b q (reverse q.choices.items)
   gather_frames f pc h =

@@ -5,27 +5,25 @@ use Rattle.std.proofs.lemmas.Bool.{false≢true, eqb-true}
 use Rattle.std.proofs.lemmas.Bool.Decides.{nat_tests}
 use Rattle.pl_terms.specs.Trees.{Tree, Trees, var, int, atom, comp, nil, cons, count}
 use Rattle.pl_unify.specs.Shape.{arity, root}
-use Rattle.goal_heads.specs.Heads.{IsNamed}
+use Rattle.clause_code.specs.Heads.{IsNamed}
 use Rattle.unit_model.specs.Facts.{Indicator}
 use Rattle.builtin_model.specs.Naming.{Naming}
 use Rattle.goal_model.specs.Rows.{Row, row_of, name_of, user, calling}
 use Rattle.goal_model.specs.Environments.{qualified}
 use Rattle.goal_model.specs.Table.{goal_tree, arguments_in}
-use Rattle.goal_terms.specs.Goals.{arguments_of}
+use Rattle.goal_constructs.specs.Goals.{arguments_of}
 use Rattle.mod_meta.specs.Qualified.{IsColon, qualified_goal}
-use Rattle.pl_store.specs.Linked.{Linked, no_procedure, procedure_at, is_procedure, same_indicator}
+use Rattle.pl_store.specs.Linked.{Linked, no_procedure, procedure_at, is_procedure, same_indicator, Row as Visible, visible_in, is_row}
 use Rattle.pl_store.specs.Rules.{indicator_of, HasArity}
-use Rattle.pl_store.specs.Facts.{IsLinked}
+use Rattle.pl_store.specs.Facts.{IsLinked, EachAt, IsVisible, no_row}
 use Rattle.pl_store.specs.Runs.{program_of, number_of, modes_from}
 use Rattle.pl_store.proofs.FactLaws.{same-is}
 use Rattle.std.specs.Option.{option_map}
-use Rattle.pl_store.specs.Linked.{Row as Visible, visible_in, is_row}
-use Rattle.pl_store.specs.Facts.{EachAt, IsVisible, no_row}
-use Rattle.goal_terms.specs.Constructs.{AreConstructs}
-use Rattle.goal_terms.specs.declared.names.GoalNames.{GoalNames}
-use Rattle.goal_terms.specs.declared.constructs.Constructs.{Constructs}
-use Rattle.goal_records.specs.declared.library.Library.{Library}
-use Rattle.goal_records.specs.Denotation.{linked, naming}
+use Rattle.goal_constructs.specs.Constructs.{AreConstructs}
+use Rattle.goal_constructs.specs.declared.names.GoalNames.{GoalNames}
+use Rattle.goal_constructs.specs.declared.constructs.Constructs.{Constructs}
+use Rattle.goal_state.specs.declared.compiled.CompiledProgram.{CompiledProgram}
+use Rattle.goal_state.specs.Denotation.{linked, naming}
 use Rattle.goal_moves.specs.Clauses.{IsProper, passed_goal}
 
 -- ---- names and numbers of arguments
@@ -144,7 +142,7 @@ visible_is l m i proc h is =
 
 -- ---- the goal as its procedure gets it
 
-module _ (b : Library) (t : Tree ℕ) (context proc : ℕ) (proper : IsProper t) (is : indicator_of t ≡ Some (procedure_at (linked b) proc).indicator) where
+module _ (b : CompiledProgram) (t : Tree ℕ) (context proc : ℕ) (proper : IsProper t) (is : indicator_of t ≡ Some (procedure_at (linked b) proc).indicator) where
   pub passed_none : None ≡ (procedure_at (linked b) proc).modes → t ≡ passed_goal b t context proc
   passed_none none = passed_plain (naming b) t (procedure_at (linked b) proc).indicator context proper is ∙ ap (λ m. goal_tree (name_of (naming b) t) (arguments_in (naming b) context m (arguments_of t))) none
 

@@ -5,21 +5,21 @@ use Rattle.pl_terms.specs.Trees.{Tree}
 use Rattle.pl_unify.specs.declared.word.Ref.{Ref}
 use Rattle.pl_unify.specs.declared.store.Mark.{Mark}
 use Rattle.pl_unify.specs.State.{State, state_at, tree_at}
-use Rattle.search_theory.specs.Search.{Event, Ans, Over, Failed, Collects, Language}
-use Rattle.search_theory.specs.Frames.{emit, heard}
-use Rattle.search_theory.specs.Configurations.{Turns, Tells, Configuration}
-use Rattle.search_theory.proofs.TellLaws.{tell_answer}
-use Rattle.goal_frames.specs.declared.frames.Frame.{Frame}
-use Rattle.goal_frames.specs.Frames.{env_of}
+use Rattle.solver_model.specs.Search.{Event, Ans, Over, Failed, Collects, Language}
+use Rattle.solver_model.specs.Frames.{emit, heard}
+use Rattle.solver_model.specs.Configurations.{Turns, Tells, Configuration}
+use Rattle.solver_model.proofs.TellLaws.{tell_answer}
+use Rattle.goal_state.specs.declared.frames.Frame.{Frame}
+use Rattle.goal_state.specs.Frames.{env_of}
 use Rattle.pl_store.specs.Linked.{Linked}
 use Rattle.pl_store.specs.Runs.{program_of}
-use Rattle.goal_records.specs.declared.choice.Choice.{Choice}
-use Rattle.goal_records.specs.declared.choice.ChoiceKind.{ChoiceKind}
-use Rattle.goal_records.specs.declared.choice.ChoiceKind.TheVariants.{Clauses, Branch, Catch, Collect}
-use Rattle.goal_records.specs.declared.library.Library.{Library}
-use Rattle.goal_records.specs.declared.path.Path.{Path}
-use Rattle.goal_records.specs.Denotation.{linked, language_of, state_of, answers_of, template_of, world_here, frames_on, frames_by, frame_from, rest_items, setting_at, outer_of, outer_answers, first, world_of, search_at}
-use Rattle.goal_records.specs.Well.{Stand, IsWell, collects, mark_of}
+use Rattle.goal_state.specs.declared.choice.Choice.{Choice}
+use Rattle.goal_state.specs.declared.choice.ChoiceKind.{ChoiceKind}
+use Rattle.goal_state.specs.declared.choice.ChoiceKind.TheVariants.{Clauses, Branch, Catch, Collect}
+use Rattle.goal_state.specs.declared.compiled.CompiledProgram.{CompiledProgram}
+use Rattle.goal_state.specs.declared.path.Path.{Path}
+use Rattle.goal_state.specs.Denotation.{linked, language_of, state_of, answers_of, template_of, world_here, frames_on, frames_by, frame_from, rest_items, setting_at, outer_of, outer_answers, first, world_of, search_at}
+use Rattle.goal_state.specs.Well.{Stand, IsWell, collects, mark_of}
 use Rattle.goal_moves.specs.Moves.{answering, Moved}
 use Rattle.goal_moves.specs.declared.going.Going.TheVariants.{Fails}
 
@@ -44,12 +44,12 @@ one_collects l v s frames top depth last (c ∷ cs) t r is h = by c.kind (λ h. 
     by (Catch name catcher recovery) ih h = ih h
     by (Collect list outer) ih h = omega arith
 
-pub last_gathered : (b : Library) (p : Path) (r : Ref) → p.template ≡ Some r → IsWell b p → vec_len p.gathered ≡ 0 → ⊥
+pub last_gathered : (b : CompiledProgram) (p : Path) (r : Ref) → p.template ≡ Some r → IsWell b p → vec_len p.gathered ≡ 0 → ⊥
 last_gathered b p r is w none =
     let one = one_collects (linked b) p.width (state_of p) p.frames (length p.frames) p.depth _ (reverse p.choices.items) p.template r is w.records in
     omega (arith, one, w.gathered, none, p.gathered.ok)
 
-module _ (b : Library) (v : ℕ) (s : State) (frames : List Frame) (r : Ref) (a : Tree ℕ) (A : List (Tree ℕ)) (R : List (List (Tree ℕ))) where
+module _ (b : CompiledProgram) (v : ℕ) (s : State) (frames : List Frame) (r : Ref) (a : Tree ℕ) (A : List (Tree ℕ)) (R : List (List (Tree ℕ))) where
   abbrev event : List (Event (List (Tree ℕ)))
   event = Ans (a ∷ []) ∷ []
 
@@ -82,7 +82,7 @@ module _ (b : Library) (v : ℕ) (s : State) (frames : List Frame) (r : Ref) (a 
       by (Collect list outer) ih h = refl
 
 -- the answer of a nested search was kept
-module _ (b : Library) (p q : Path) (r : Ref) (others : q ≡ record p { gathered = q.gathered }) (is : p.template ≡ Some r) (w : IsWell b p) where
+module _ (b : CompiledProgram) (p q : Path) (r : Ref) (others : q ≡ record p { gathered = q.gathered }) (is : p.template ≡ Some r) (w : IsWell b p) where
   abbrev answer : Tree ℕ
   answer = tree_at (state_of p) r
 

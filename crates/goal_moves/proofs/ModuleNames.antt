@@ -16,7 +16,7 @@ use Rattle.builtin_model.specs.Naming.{Naming}
 use Rattle.builtin_model.specs.Faults.{instantiation, fault_tree}
 use Rattle.goal_model.specs.Program.{Program}
 use Rattle.goal_model.specs.Table.{module_of, ball_of}
-use Rattle.goal_moves.specs.declared.control.Named.{Named}
+use Rattle.goal_moves.specs.declared.term_control.Named.{Named}
 use Rattle.goal_moves.specs.Control.{IsNamed, no_atom}
 
 differs : (m x : ℕ) → x < m → nat_eq m x ≡ false

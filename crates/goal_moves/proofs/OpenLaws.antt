@@ -1,37 +1,33 @@
 -- Paths on which a clause is taken, with another one left that may be.
 use Rattle.std.proofs.Common.{◌≡◌, ℕ, ◌+◌, ◌-◌, ◌≤◌, List, [], ◌∷◌, Some, refl, sym, ap, ◌∙◌, subst, arith, length, length-take, reverse, map, take}
 use Rattle.pl_unify.specs.declared.store.Mark.{Mark}
-use Rattle.pl_unify.specs.State.{State, state_at, tree_at, IsMark, Extends}
+use Rattle.pl_unify.specs.State.{State, state_at, tree_at, IsMark, Extends, Stored}
 use Rattle.pl_unify.proofs.StoreLaws.{state_at-extends, IsMark-extends}
-use Rattle.search_theory.specs.Search.{Tries, FrameOf}
-use Rattle.search_theory.specs.Configurations.{Turns}
+use Rattle.solver_model.specs.Search.{Tries, FrameOf}
+use Rattle.solver_model.specs.Configurations.{Turns}
 use Rattle.goal_model.specs.Table.{resolves}
-use Rattle.goal_frames.specs.Frames.{env_of, FramesFit, FrameFits}
-use Rattle.goal_frames.proofs.StoreLaws.{fits_put}
-use Rattle.goal_heads.specs.Heads.{Took}
-use Rattle.pl_store.specs.Linked.{Linked, Entered as Clause_of, clause_at}
+use Rattle.goal_state.specs.Frames.{env_of, FramesFit, FrameFits, items_of}
+use Rattle.goal_state.proofs.StoreLaws.{fits_put}
+use Rattle.clause_code.specs.Heads.{Took}
+use Rattle.pl_store.specs.Linked.{Linked, clause_at}
 use Rattle.pl_store.specs.Runs.{program_of}
 use Rattle.pl_store.specs.declared.key.ClauseId.{ClauseId}
-use Rattle.goal_records.specs.declared.choice.Choice.{Choice}
-use Rattle.goal_records.specs.declared.choice.ChoiceKind.TheVariants.{Clauses}
-use Rattle.goal_records.specs.declared.library.Library.{Library}
-use Rattle.goal_records.specs.declared.path.Path.{Path}
-use Rattle.goal_records.specs.Denotation.{linked, language_of, bodies, clauses_on, state_of, items_here, world_here, frames_on}
-use Rattle.goal_records.specs.Well.{IsLibrary, Older, Stands, Stand, TemplateFits, IsWellWith, mark_of}
-use Rattle.goal_records.specs.Steps.{Opened, link_to}
-use Rattle.goal_records.proofs.RecordLaws.{stand_same, stand_wider}
-use Rattle.goal_records.proofs.PathLaws.{opened_choices, opened_frames_on, opened_items}
-use Rattle.goal_moves.specs.declared.user.Attempt.{Attempt}
+use Rattle.goal_state.specs.declared.choice.Choice.{Choice}
+use Rattle.goal_state.specs.declared.choice.ChoiceKind.TheVariants.{Clauses}
+use Rattle.goal_state.specs.declared.compiled.CompiledProgram.{CompiledProgram}
+use Rattle.goal_state.specs.declared.path.Path.{Path}
+use Rattle.goal_state.specs.Denotation.{linked, language_of, bodies, clauses_on, state_of, items_here, world_here, frames_on, world_of}
+use Rattle.goal_state.specs.Well.{IsCompiled, Older, Stands, Stand, TemplateFits, IsWellWith, mark_of, KindFits}
+use Rattle.goal_state.specs.Steps.{Opened, link_to}
+use Rattle.goal_state.proofs.RecordLaws.{stand_same, stand_wider}
+use Rattle.goal_state.proofs.PathLaws.{opened_choices, opened_frames_on, opened_items}
+use Rattle.goal_moves.specs.declared.procedures.Attempt.{Attempt}
 use Rattle.goal_moves.specs.declared.going.Going.TheVariants.{On}
 use Rattle.goal_moves.specs.Clauses.{FitsNext, body_rest}
 use Rattle.goal_moves.specs.Moves.{tried, IsTrying, Moved, Entered, here}
 use Rattle.goal_moves.proofs.NextLaws.{clauses_first}
 use Rattle.goal_moves.proofs.AttemptLaws.{items_by, world_by, turn_leads}
 use Rattle.goal_moves.proofs.TryLaws.{resolution_at, tried_by}
-use Rattle.pl_unify.specs.State.{Stored}
-use Rattle.goal_frames.specs.Frames.{items_of}
-use Rattle.goal_records.specs.Denotation.{world_of}
-use Rattle.goal_records.specs.Well.{KindFits}
 use Rattle.goal_moves.proofs.TakeLaws.{at_point, reached, mid_frames, mid_well, mid_depth, mid_width}
 
 -- a mark of the whole state is no earlier than it
@@ -59,7 +55,7 @@ undone_others p q s others = ap (with_store s) others
 pub undone_state : (p q : State) (m : Mark) (s : State) → IsMark m p → Extends p q → s ≡ state_at m q → state_at m p ≡ p → s ≡ p
 undone_state p q m s valid more is at = is ∙ state_at-extends m p q more valid ∙ at
 
-module _ (b : Library) (lib : IsLibrary b) (p q : Path) (a : Attempt) (c base : ℕ) (is_base : base ≡ (state_of p).next) (others : q ≡ record p { store = q.store }) (t : IsTrying b p a c)
+module _ (b : CompiledProgram) (lib : IsCompiled b) (p q : Path) (a : Attempt) (c base : ℕ) (is_base : base ≡ (state_of p).next) (others : q ≡ record p { store = q.store }) (t : IsTrying b p a c)
     (took : Took (state_of p) (state_of q) (tree_at (state_of p) a.goal) (clause_at (linked b) c).clause.head (clause_at (linked b) c).clause.width)
     (o : Path) (n : ClauseId) (mark : Mark) (valid : IsMark mark (state_of p)) (at : state_at mark (state_of p) ≡ state_of p) (next : FitsNext b p a c n.0)
     (made : Opened q o (Clauses n a.goal) mark a.rest.f a.rest.pc a.setting a.setting.depth) where

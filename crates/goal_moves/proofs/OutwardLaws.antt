@@ -2,15 +2,15 @@
 use Rattle.std.proofs.Common.{◌≡◌, ℕ, suc, ◌≤◌, [], ◌∷◌, refl, sym, ap, ◌∙◌, subst, arith, length, reverse, Box, Vec, Global}
 use Rattle.std.proofs.lemmas.List.{length-reverse}
 use Rattle.pl_terms.specs.Trees.{Tree}
-use Rattle.search_theory.specs.Search.{Over, Thrown, has, pops}
-use Rattle.search_theory.specs.Configurations.{Configuration, Falling, Turns}
-use Rattle.search_theory.proofs.TurnLaws.{turns_none, turns_then}
-use Rattle.goal_frames.specs.Frames.{items_of}
-use Rattle.goal_records.specs.declared.choice.Choice.{Choice}
-use Rattle.goal_records.specs.declared.library.Library.{Library}
-use Rattle.goal_records.specs.declared.path.Path.{Path}
-use Rattle.goal_records.specs.Denotation.{bodies, linked, language_of, state_of, frames_on, search_at}
-use Rattle.goal_records.specs.Well.{Stand, IsWell, mark_of, collects}
+use Rattle.solver_model.specs.Search.{Over, Thrown, has, pops}
+use Rattle.solver_model.specs.Configurations.{Configuration, Falling, Turns}
+use Rattle.solver_model.proofs.TurnLaws.{turns_none, turns_then}
+use Rattle.goal_state.specs.Frames.{items_of}
+use Rattle.goal_state.specs.declared.choice.Choice.{Choice}
+use Rattle.goal_state.specs.declared.compiled.CompiledProgram.{CompiledProgram}
+use Rattle.goal_state.specs.declared.path.Path.{Path}
+use Rattle.goal_state.specs.Denotation.{bodies, linked, language_of, state_of, frames_on, search_at}
+use Rattle.goal_state.specs.Well.{Stand, IsWell, mark_of, collects}
 use Rattle.goal_moves.specs.declared.active.Rest.{Rest}
 use Rattle.goal_moves.specs.declared.going.Going.TheVariants.{On, Uncaught}
 use Rattle.goal_moves.specs.Moves.{search_with, resumed, thrown, Moved}
@@ -21,7 +21,7 @@ use Rattle.goal_moves.specs.Untried.{TakesOff}
 use Rattle.goal_moves.proofs.RetryLaws.{popped_turns}
 
 -- where a ball starts
-pub throws_first : (b : Library) (p : Path) (ball : Tree ℕ) (at : Rest) (left : ℕ) → Throws b (thrown b p ball (exits_here b p at) left) p ball at left
+pub throws_first : (b : CompiledProgram) (p : Path) (ball : Tree ℕ) (at : Rest) (left : ℕ) → Throws b (thrown b p ball (exits_here b p at) left) p ball at left
 throws_first b p ball at left = record {
   active = exits_here b p at;
   agrees = λ k lt. refl;
@@ -30,7 +30,7 @@ throws_first b p ball at left = record {
 }
 
 -- a record is taken off
-pub meets_next : (b : Library) (old mid : Path) (c : Choice) → reverse old.choices.items ≡ c ∷ reverse mid.choices.items → mid ≡ record old { choices = mid.choices } → (x : Configuration (language_of b)) (ball : Tree ℕ) (at : Rest) (left : ℕ) → Throws b x old ball at left → Meets b x mid c ball at left
+pub meets_next : (b : CompiledProgram) (old mid : Path) (c : Choice) → reverse old.choices.items ≡ c ∷ reverse mid.choices.items → mid ≡ record old { choices = mid.choices } → (x : Configuration (language_of b)) (ball : Tree ℕ) (at : Rest) (left : ℕ) → Throws b x old ball at left → Meets b x mid c ball at left
 meets_next b old mid c is others x ball at left t =
     let same : exits_here b old at ≡ exits_here b mid at = ap (λ (y : Path). pops (items_of (bodies b) (state_of y) y.frames at.f at.pc)) (sym others) in
     let deep : mid.depth ≡ old.depth = ap (λ (y : Path). y.depth) others in
@@ -42,17 +42,17 @@ meets_next b old mid c is others x ball at left t =
     }
 
 -- what is kept while a ball goes outward from where it was thrown
-pub record Outward (b : Library) (first old : Path) (ball : Tree ℕ) (at : Rest) (x : ℕ → Configuration (language_of b)) : Type 0 where
+pub record Outward (b : CompiledProgram) (first old : Path) (ball : Tree ℕ) (at : Rest) (x : ℕ → Configuration (language_of b)) : Type 0 where
   pub well : IsWell b old
   pub low : old.depth ≤ first.depth
   pub width : old.width ≡ first.width
   pub fewer : length old.choices.items ≤ length first.choices.items
   pub goes : (left : ℕ) → Throws b (x left) old ball at left
 
-pub outward_first : (b : Library) (p : Path) (ball : Tree ℕ) (at : Rest) → IsWell b p → Outward b p p ball at (thrown b p ball (exits_here b p at))
+pub outward_first : (b : CompiledProgram) (p : Path) (ball : Tree ℕ) (at : Rest) → IsWell b p → Outward b p p ball at (thrown b p ball (exits_here b p at))
 outward_first b p ball at w = record { well = w; low = omega arith; width = refl; fewer = omega arith; goes = throws_first b p ball at }
 
-module _ (b : Library) (first old mid new : Path) (c : Choice) (is : reverse old.choices.items ≡ c ∷ reverse mid.choices.items) (others : mid ≡ record old { choices = mid.choices }) (ball : Tree ℕ) (at : Rest) (x : ℕ → Configuration (language_of b)) (o : Outward b first old ball at x) where
+module _ (b : CompiledProgram) (first old mid new : Path) (c : Choice) (is : reverse old.choices.items ≡ c ∷ reverse mid.choices.items) (others : mid ≡ record old { choices = mid.choices }) (ball : Tree ℕ) (at : Rest) (x : ℕ → Configuration (language_of b)) (o : Outward b first old ball at x) where
   deep : mid.depth ≡ old.depth
   deep = ap (λ (y : Path). y.depth) others
 
@@ -107,7 +107,7 @@ module _ (b : Library) (first old mid new : Path) (c : Choice) (is : reverse old
   raised_on r other next e h = outward_on other next (subst (Hands b mid new c ball at) e h)
 
 -- no record is left
-pub moved_out : (b : Library) (first old : Path) (v : Vec Choice Global) (ball : Box (Tree ℕ) Global) (at : Rest) (x : ℕ → Configuration (language_of b)) → v.items ≡ old.choices.items → v.items ≡ [] → Outward b first old ball.value at x → Moved b first (record old { choices = v }) x (Uncaught ball)
+pub moved_out : (b : CompiledProgram) (first old : Path) (v : Vec Choice Global) (ball : Box (Tree ℕ) Global) (at : Rest) (x : ℕ → Configuration (language_of b)) → v.items ≡ old.choices.items → v.items ≡ [] → Outward b first old ball.value at x → Moved b first (record old { choices = v }) x (Uncaught ball)
 moved_out b first old v ball at x is none o = record {
   well = (let w = o.well in record { store = w.store; frames = w.frames; template = w.template; wide = w.wide; records = subst (λ l. Stand (linked b) old.width (state_of old) old.frames (length old.frames) old.depth (mark_of (state_of old)) (reverse l) old.template) (sym is) w.records; gathered = ap (λ l. collects (reverse l)) is ∙ w.gathered });
   low = o.low;

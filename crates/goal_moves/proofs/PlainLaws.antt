@@ -6,14 +6,14 @@ use Rattle.pl_atoms.specs.Names.{IsFront, AreDistinct}
 use Rattle.pl_atoms.proofs.Numbers.{length-front}
 use Rattle.pl_terms.specs.Trees.{Tree}
 use Rattle.pl_terms.specs.Occurrence.{canon, from_to}
-use Rattle.run_model.specs.Substitution.{apply}
-use Rattle.run_model.specs.Mgu.{mgu, unifier}
+use Rattle.unifier_model.specs.Substitution.{apply}
+use Rattle.unifier_model.specs.Mgu.{mgu, unifier}
 use Rattle.pl_unify.specs.declared.word.Ref.{Ref}
 use Rattle.pl_unify.specs.State.{State, Stored, tree_at, tree_of_var, IsRef, IsStore, Extends}
-use Rattle.search_theory.specs.Search.{Event, End, At, Over, Failed, Thrown, Halted, Tries, Ends, Opens, Call, FrameOf, Language, ActivationOf, pops, prepend}
-use Rattle.search_theory.specs.Configurations.{Configuration, Turns, Tells}
-use Rattle.search_theory.proofs.TurnLaws.{turn_last, turn_done, turns_then, turns_same}
-use Rattle.search_theory.proofs.TellLaws.{tell_call, tell_ends}
+use Rattle.solver_model.specs.Search.{Event, End, At, Over, Failed, Thrown, Halted, Tries, Ends, Opens, Call, FrameOf, Language, ActivationOf, pops, prepend}
+use Rattle.solver_model.specs.Configurations.{Configuration, Turns, Tells}
+use Rattle.solver_model.proofs.TurnLaws.{turn_last, turn_done, turns_then, turns_same}
+use Rattle.solver_model.proofs.TellLaws.{tell_call, tell_ends}
 use Rattle.builtin_model.specs.Naming.{by_numbers, number_in}
 use Rattle.builtin_model.specs.Faults.{fault_tree}
 use Rattle.builtin_model.specs.Deeds.{Deed, equal, differ, no, raise, halt, deed}
@@ -29,16 +29,16 @@ use Rattle.goal_model.specs.Rows.{plain, row_of, name_of, arity_of}
 use Rattle.goal_model.specs.Table.{World, Items, Alternative, leads, item_under, bound, apart, shown, done, row, activate}
 use Rattle.goal_model.proofs.ItemLaws.{outs_of-shown}
 use Rattle.goal_model.proofs.SaneProofs.{table_sane}
-use Rattle.goal_frames.specs.declared.frames.Setting.{Setting}
-use Rattle.goal_frames.specs.Frames.{env_of, items_of}
-use Rattle.goal_frames.proofs.StoreLaws.{items_move, items_stay}
+use Rattle.goal_state.specs.declared.frames.Setting.{Setting}
+use Rattle.goal_state.specs.Frames.{env_of, items_of}
+use Rattle.goal_state.proofs.StoreLaws.{items_move, items_stay}
 use Rattle.pl_store.specs.Runs.{program_of}
-use Rattle.goal_records.specs.declared.library.Library.{Library}
-use Rattle.goal_records.specs.declared.path.Path.{Path}
-use Rattle.goal_records.specs.Denotation.{linked, naming, bodies, language_of, answers_of, state_of, template_of, world_of, items_here, world_here, frames_by, frames_on, point_here, search_at}
-use Rattle.goal_records.specs.Well.{IsWell, IsWellWith, TemplateFits, mark_of, floor_of}
-use Rattle.goal_records.proofs.PathLaws.{grown_frames_on, grown_well}
-use Rattle.goal_records.proofs.RecordLaws.{stand_wider}
+use Rattle.goal_state.specs.declared.compiled.CompiledProgram.{CompiledProgram}
+use Rattle.goal_state.specs.declared.path.Path.{Path}
+use Rattle.goal_state.specs.Denotation.{linked, naming, bodies, language_of, answers_of, state_of, template_of, world_of, items_here, world_here, frames_by, frames_on, point_here, search_at}
+use Rattle.goal_state.specs.Well.{IsWell, IsWellWith, TemplateFits, mark_of, floor_of}
+use Rattle.goal_state.proofs.PathLaws.{grown_frames_on, grown_well}
+use Rattle.goal_state.proofs.RecordLaws.{stand_wider}
 use Rattle.goal_moves.specs.declared.going.Going.{Going}
 use Rattle.goal_moves.specs.declared.going.Going.TheVariants.{On, Fails, Halts, Uncaught}
 use Rattle.goal_moves.specs.Moves.{Stays, called, thrown, Moved, Activated}
@@ -61,14 +61,14 @@ tells_turns L events x y z t u = record {
 }
 
 -- what holds of where a move leads holds where its configuration is related otherwise
-pub stays_then : (b : Library) (R S : Configuration (language_of b) → Type 0) (p : Path) (left : ℕ) (g : Going) → ((y : Configuration (language_of b)) → R y → S y) → Stays b R p left g → Stays b S p left g
+pub stays_then : (b : CompiledProgram) (R S : Configuration (language_of b) → Type 0) (p : Path) (left : ℕ) (g : Going) → ((y : Configuration (language_of b)) → R y → S y) → Stays b R p left g → Stays b S p left g
 stays_then b R S p left On h r = h _ r
 stays_then b R S p left Fails h r = h _ r
 stays_then b R S p left (Halts z) h r = h _ r
 stays_then b R S p left (Uncaught t) h r = (r.0, r.1, h _ r.2)
 
 -- a path is well for deeper nodes too
-pub deeper : (b : Library) (p : Path) (d e : ℕ) → d ≤ e → IsWellWith b p (reverse p.choices.items) d → IsWellWith b p (reverse p.choices.items) e
+pub deeper : (b : CompiledProgram) (p : Path) (d e : ℕ) → d ≤ e → IsWellWith b p (reverse p.choices.items) d → IsWellWith b p (reverse p.choices.items) e
 deeper b p d e le w = record {
   store = w.store;
   frames = w.frames;
@@ -113,7 +113,7 @@ unfolding mgu
 solved es o e = e
 
 -- a goal with this tree and setting, which is a row's, in a node of this depth before what follows from a place on
-module _ (b : Library) (p : Path) (tree : Tree ℕ) (setting : Setting) (node f pc : ℕ) (deep : p.depth ≡ node + 1) (well : IsWellWith b p (reverse p.choices.items) node) (k : Builtin) (ts : List (Tree ℕ)) (its : row_of (naming b) tree ≡ plain k ts) where
+module _ (b : CompiledProgram) (p : Path) (tree : Tree ℕ) (setting : Setting) (node f pc : ℕ) (deep : p.depth ≡ node + 1) (well : IsWellWith b p (reverse p.choices.items) node) (k : Builtin) (ts : List (Tree ℕ)) (its : row_of (naming b) tree ≡ plain k ts) where
   abbrev goal : Goal ℕ
   goal = record { tree = tree; env = env_of setting; reach = setting.depth }
 
@@ -377,15 +377,15 @@ module _ (b : Library) (p : Path) (tree : Tree ℕ) (setting : Setting) (node f 
             let t : Throws (state_of p) st.state b.names more asked r at = subst Ended e ends in
             (stored_well t.grows.extends, t.place)
 
-        pub error-of : (at : Ref) (q : Path) (l : Library) (o : Outcome) (g : Going) → o ≡ O.Error at → Ended o → Told o → l ≡ b
+        pub error-of : (at : Ref) (q : Path) (l : CompiledProgram) (o : Outcome) (g : Going) → o ≡ O.Error at → Ended o → Told o → l ≡ b
             → Moved l moved q (thrown l moved (canon (tree_at st.state at)) (pops (items_here l moved f pc))) g → Activated b p q started before after g
         error-of at q l o g e ends text same m =
             error-done at q g (subst Ended e ends) (subst Told e text)
             (subst (λ x. Moved x moved q (thrown x moved (canon (tree_at st.state at)) (pops (items_here x moved f pc))) g) same m)
 
--- a library whose names are as before
-pub library_same : (b : Library) (names : List (List ℕ)) → names ≡ b.names → record b { names = names } ≡ b
-library_same b names e = ap (λ n. record b { names = n }) e
+-- a compiled whose names are as before
+pub compiled_same : (b : CompiledProgram) (names : List (List ℕ)) → names ≡ b.names → record b { names = names } ≡ b
+compiled_same b names e = ap (λ n. record b { names = n }) e
 
 pub if_ok : {A E : Type 0} (P Q : A → Type 0) (r : Result A E) → ((x : A) → P x → Q x) → IfOk r P → IfOk r Q
 if_ok P Q (Ok x) h i = h x i

@@ -2,7 +2,7 @@
 use Rattle.std.proofs.Common.{◌≡◌, ℕ, zero, suc, ◌+◌, ◌<◌, ◌≤◌, Bool, true, false, List, [], ◌∷◌, ◌++◌, Option, Some, None, refl, sym, ap, ◌∙◌, subst, arith, length, take, drop, length-drop, get_or, nat_eq, cond}
 use Rattle.std.proofs.lemmas.List.{length-take-le}
 use Rattle.pl_terms.specs.Trees.{Tree, var, int, atom, comp, nil, cons}
-use Rattle.run_model.specs.Substitution.{apply, replace}
+use Rattle.unifier_model.specs.Substitution.{apply, replace}
 use Rattle.pl_unify.specs.Prefix.{trees}
 use Rattle.pl_unify.specs.declared.word.Ref.{Ref}
 use Rattle.pl_unify.specs.declared.word.View.{View}
@@ -16,7 +16,7 @@ use Rattle.pl_unify.proofs.Shapes.{get_or-bases}
 use Rattle.pl_unify.proofs.Grown.{length-bases_nil}
 use Rattle.unit_model.specs.Facts.{Indicator}
 use Rattle.pl_store.specs.Rules.{indicator_of}
-use Rattle.goal_heads.specs.Heads.{IsNamed}
+use Rattle.clause_code.specs.Heads.{IsNamed}
 use Rattle.pl_terms.specs.Cells.{cells, IsTerm}
 use Rattle.goal_moves.specs.Clauses.{IsProper}
 

@@ -3,28 +3,29 @@ use Rattle.std.proofs.Common.{◌≡◌, ℕ, suc, ◌+◌, ◌<◌, ◌≤◌, 
 use Rattle.std.proofs.lemmas.List.{length-reverse, reverse-append}
 use Rattle.pl_unify.specs.declared.word.Ref.{Ref}
 use Rattle.pl_unify.specs.State.{State, state_at, tree_at}
-use Rattle.search_theory.specs.Search.{Over, Failed, Tries, PointOf, FrameOf, Language}
-use Rattle.search_theory.specs.Configurations.{Configuration, Turns}
-use Rattle.search_theory.proofs.TurnLaws.{turns_then, turns_same, turn_last, turn_catch_done}
+use Rattle.solver_model.specs.Search.{Over, Failed, Tries, PointOf, FrameOf, Language}
+use Rattle.solver_model.specs.Configurations.{Configuration, Turns}
+use Rattle.solver_model.proofs.TurnLaws.{turns_then, turns_same, turn_last, turn_catch_done}
 use Rattle.goal_model.specs.Table.{leads, place, resolves}
 use Rattle.pl_store.specs.Runs.{program_of}
 use Rattle.pl_store.specs.declared.key.ClauseId.{ClauseId}
-use Rattle.goal_frames.specs.declared.frames.Frame.{Frame}
-use Rattle.goal_frames.specs.Frames.{ClauseCode, place_get, env_of, items_of, FramesFit}
-use Rattle.goal_frames.proofs.StoreLaws.{fits_read}
-use Rattle.goal_records.specs.declared.choice.Choice.{Choice}
-use Rattle.goal_records.specs.declared.choice.ChoiceKind.{ChoiceKind}
-use Rattle.goal_records.specs.declared.choice.ChoiceKind.TheVariants.{Clauses, Branch, Catch, Collect}
-use Rattle.goal_records.specs.declared.library.Library.{Library}
-use Rattle.goal_records.specs.declared.path.Path.{Path}
-use Rattle.goal_records.specs.Denotation.{linked, language_of, state_of, answers_of, items_here, world_here, frames_on, frames_by, frame_from, rest_items, setting_in, setting_at, outer_of, outer_answers, first, clauses_on, search_at, point_here}
-use Rattle.goal_records.specs.Well.{Stand, KindFits, IsWell, IsWellWith, floor_of, mark_of, collects}
-use Rattle.goal_records.proofs.PlaceLaws.{place_there}
-use Rattle.goal_records.proofs.RecordLaws.{stand_wider}
+use Rattle.goal_state.specs.declared.frames.Frame.{Frame}
+use Rattle.goal_code.specs.BodyCode.{BodyCode}
+use Rattle.goal_state.specs.Frames.{place_get, env_of, items_of, FramesFit}
+use Rattle.goal_state.proofs.StoreLaws.{fits_read}
+use Rattle.goal_state.specs.declared.choice.Choice.{Choice}
+use Rattle.goal_state.specs.declared.choice.ChoiceKind.{ChoiceKind}
+use Rattle.goal_state.specs.declared.choice.ChoiceKind.TheVariants.{Clauses, Branch, Catch, Collect}
+use Rattle.goal_state.specs.declared.compiled.CompiledProgram.{CompiledProgram}
+use Rattle.goal_state.specs.declared.path.Path.{Path}
+use Rattle.goal_state.specs.Denotation.{linked, language_of, state_of, answers_of, items_here, world_here, frames_on, frames_by, frame_from, rest_items, setting_in, setting_at, outer_of, outer_answers, first, clauses_on, search_at, point_here}
+use Rattle.goal_state.specs.Well.{Stand, KindFits, IsWell, IsWellWith, floor_of, mark_of, collects}
+use Rattle.goal_state.proofs.PlaceLaws.{place_there}
+use Rattle.goal_state.proofs.RecordLaws.{stand_wider}
 use Rattle.goal_moves.specs.Moves.{search_with, resumed, tried, Moved, IsTrying, Stays}
 use Rattle.goal_moves.specs.declared.going.Going.{Going}
 use Rattle.goal_moves.specs.declared.going.Going.TheVariants.{On, Fails, Halts, Uncaught}
-use Rattle.goal_moves.specs.declared.user.Attempt.{Attempt}
+use Rattle.goal_moves.specs.declared.procedures.Attempt.{Attempt}
 use Rattle.goal_moves.proofs.KeepLaws.{answers_length}
 use Rattle.goal_moves.proofs.BackLaws.{back_well, back_frames, back_rest, back_setting, back_length, collects_left, floor_below}
 
@@ -38,7 +39,7 @@ OnOk-then (Err e) h f = tt
 
 -- ---- a move after another
 
-module _ (b : Library) where
+module _ (b : CompiledProgram) where
   pub stays_then : (x y : Configuration (language_of b)) (p : Path) (left : ℕ) (g : Going) → Turns (language_of b) x y → Stays b (Turns (language_of b) y) p left g → Stays b (Turns (language_of b) x) p left g
   stays_then x y p left On t h = turns_then (language_of b) x y (search_at b p (point_here b p) left) t h
   stays_then x y p left Fails t h = turns_then (language_of b) x y _ t h
@@ -73,7 +74,7 @@ inside_clauses p c clause goal is = inside_of p c.kind (λ list outer e. let f :
 pub inside_catch : (p : Path) (c : Choice) (name : _) (catcher recovery : Ref) → c.kind ≡ Catch name catcher recovery → IsInside p c
 inside_catch p c name catcher recovery is = inside_of p c.kind (λ list outer e. let f : Catch name catcher recovery ≡ Collect list outer = sym is ∙ e in cc)
 
-module _ (b : Library) (p : Path) (c : Choice) (cs : List Choice) (inside : IsInside p c) (w : IsWellWith b p (c ∷ cs) p.depth) where
+module _ (b : CompiledProgram) (p : Path) (c : Choice) (cs : List Choice) (inside : IsInside p c) (w : IsWellWith b p (c ∷ cs) p.depth) where
   -- it is left
   pub left_well : IsWellWith b p cs p.depth
   left_well = record {
@@ -96,7 +97,7 @@ module _ (b : Library) (p : Path) (c : Choice) (cs : List Choice) (inside : IsIn
       ∙ ap (λ gs. frame_from b p.width c.kind c.depth (state_at c.mark (state_of p)) (rest_items b p.width (state_of p) p.frames c) (env_of (setting_at p.frames c.rest)) p.template (first (answers_of p)) ∷ frames_by b p.width (state_of p) p.frames cs p.template gs) inside.1
 
 -- a catch has nothing else untried
-pub catch_left : (b : Library) (p : Path) (c : Choice) (name : _) (catcher recovery : Ref) → c.kind ≡ Catch name catcher recovery → IsWellWith b p (c ∷ reverse p.choices.items) p.depth → Moved b p p (resumed b p c (Over Failed)) Fails
+pub catch_left : (b : CompiledProgram) (p : Path) (c : Choice) (name : _) (catcher recovery : Ref) → c.kind ≡ Catch name catcher recovery → IsWellWith b p (c ∷ reverse p.choices.items) p.depth → Moved b p p (resumed b p c (Over Failed)) Fails
 catch_left b p c name catcher recovery is w = record {
   well = left_well b p c (reverse p.choices.items) inside w;
   low = omega arith;
@@ -118,7 +119,7 @@ catch_left b p c name catcher recovery is w = record {
         left_frames b p c (reverse p.choices.items) inside w
         ∙ ap (λ k. frame_from b p.width k c.depth (state_at c.mark (state_of p)) (rest_items b p.width (state_of p) p.frames c) (env_of (setting_at p.frames c.rest)) p.template (first (answers_of p)) ∷ frames_on b p (reverse p.choices.items)) is
 
-pub placed_well : (b : Library) (q : Path) (cs : List Choice) (d e f pc k : ℕ) → d ≤ e → IsWellWith b q cs d → IsWellWith b (record q { f = f; pc = pc; depth = k }) cs e
+pub placed_well : (b : CompiledProgram) (q : Path) (cs : List Choice) (d e f pc k : ℕ) → d ≤ e → IsWellWith b q cs d → IsWellWith b (record q { f = f; pc = pc; depth = k }) cs e
 placed_well b q cs d e f pc k le w = record {
   store = w.store;
   frames = w.frames;
@@ -133,7 +134,7 @@ placed_well b q cs d e f pc k le w = record {
         stand_wider (linked b) q.width (state_of q) q.frames (length q.frames) (length q.frames) d e (mark_of (state_of q)) (mark_of (state_of q)) cs q.template
         (floor_below (linked b) q.width (state_of q) q.frames (length q.frames) d (mark_of (state_of q)) cs q.template h) le (record { cells = omega arith; trail = omega arith; vars = omega arith }) h
 
-pub deeper_well : (b : Library) (q : Path) (cs : List Choice) (d e : ℕ) → d ≤ e → IsWellWith b q cs d → IsWellWith b q cs e
+pub deeper_well : (b : CompiledProgram) (q : Path) (cs : List Choice) (d e : ℕ) → d ≤ e → IsWellWith b q cs d → IsWellWith b q cs e
 deeper_well b q cs d e le w =
     let x = placed_well b q cs d e q.f q.pc q.depth le w in
     record { store = w.store; frames = w.frames; template = w.template; wide = w.wide; records = x.records; gathered = w.gathered }
@@ -147,7 +148,7 @@ setting_low s frames k some le fit = by (place_get (reverse frames) k) refl
 
 -- ---- a path that went back to such a record
 
-module _ (b : Library) (p q : Path) (c : Choice) (inside : IsInside p c) (w : IsWellWith b p (c ∷ reverse p.choices.items) p.depth)
+module _ (b : CompiledProgram) (p q : Path) (c : Choice) (inside : IsInside p c) (w : IsWellWith b p (c ∷ reverse p.choices.items) p.depth)
     (state : state_of q ≡ state_at c.mark (state_of p)) (frames : q.frames ≡ take c.rest p.frames) (others : q ≡ record p { store = q.store; frames = q.frames }) where
   template : q.template ≡ outer_of c.kind p.template
   template = ap (λ x. x.template) others ∙ sym inside.0
@@ -168,7 +169,7 @@ module _ (b : Library) (p q : Path) (c : Choice) (inside : IsInside p c) (w : Is
   shallow = w.records.0.shallow
 
   -- what the record stands for, on the path that went back
-  pub retried_frames : (f pc : ℕ) → ((x : ℕ → ClauseCode) (s : State) → items_of x s q.frames f pc ≡ items_of x s q.frames c.rest 0)
+  pub retried_frames : (f pc : ℕ) → ((x : ℕ → BodyCode) (s : State) → items_of x s q.frames f pc ≡ items_of x s q.frames c.rest 0)
       → frames_on b p (c ∷ reverse p.choices.items)
       ≡ frame_from b q.width c.kind c.depth (state_of q) (items_here b q f pc) (env_of (setting_in (place_get (reverse q.frames) c.rest))) q.template (first (answers_of p)) ∷ frames_on b q (reverse q.choices.items)
   retried_frames f pc h =
@@ -183,7 +184,7 @@ module _ (b : Library) (p q : Path) (c : Choice) (inside : IsInside p c) (w : Is
       ∙ ap (λ t. frame_from b q.width c.kind c.depth (state_of q) (items_here b q f pc) (env_of (setting_in (place_get (reverse q.frames) c.rest))) t (first (answers_of p)) ∷ frames_on b q (reverse q.choices.items)) (sym (ap (λ x. x.template) others))
 
   -- a branch goes on from the record's frame
-  pub retried_branch : (f pc : ℕ) → c.kind ≡ Branch → ((x : ℕ → ClauseCode) (s : State) → items_of x s q.frames f pc ≡ items_of x s q.frames c.rest 0)
+  pub retried_branch : (f pc : ℕ) → c.kind ≡ Branch → ((x : ℕ → BodyCode) (s : State) → items_of x s q.frames f pc ≡ items_of x s q.frames c.rest 0)
       → Moved b p (record q { f = f; pc = pc; depth = c.depth + 1 }) (resumed b p c (Over Failed)) On
   retried_branch f pc is h = record {
     well = deeper;
@@ -206,7 +207,7 @@ module _ (b : Library) (p q : Path) (c : Choice) (inside : IsInside p c) (w : Is
   -- clauses are tried from the record's clause on
   module _ (a : Attempt) (clause : ClauseId) (is : c.kind ≡ Clauses clause a.goal) (depth : a.setting.depth ≡ c.depth) (env : env_of a.setting ≡ env_of (setting_in (place_get (reverse q.frames) c.rest)))
       (base : a.setting.base ≡ (setting_in (place_get (reverse q.frames) c.rest)).base) (within : a.rest.f ≤ c.rest)
-      (rest : (x : ℕ → ClauseCode) (s : State) → items_of x s q.frames a.rest.f a.rest.pc ≡ items_of x s q.frames c.rest 0) where
+      (rest : (x : ℕ → BodyCode) (s : State) → items_of x s q.frames a.rest.f a.rest.pc ≡ items_of x s q.frames c.rest 0) where
     abbrev onward : Path
     onward = record q { depth = c.depth + 1 }
 
@@ -242,7 +243,7 @@ module _ (b : Library) (p q : Path) (c : Choice) (inside : IsInside p c) (w : Is
 
 -- ---- a record that is taken off
 
-module _ (b : Library) (old mid : Path) (c : Choice) (is : reverse old.choices.items ≡ c ∷ reverse mid.choices.items) (others : mid ≡ record old { choices = mid.choices }) where
+module _ (b : CompiledProgram) (old mid : Path) (c : Choice) (is : reverse old.choices.items ≡ c ∷ reverse mid.choices.items) (others : mid ≡ record old { choices = mid.choices }) where
   pub popped_turns : (point : PointOf (language_of b)) (left : ℕ) → Turns (language_of b) (search_at b old point left) (resumed b mid c point left)
   popped_turns point left =
       turns_same (language_of b) (search_at b old point left) (resumed b mid c point left)
@@ -283,7 +284,7 @@ no_items v h = none v.items (omega (arith, h, v.ok))
     none [] h = refl
     none (x ∷ xs) h = absurd (omega (arith, h))
 
-pub same_choices : (b : Library) (old : Path) (v : Vec Choice Global) → v.items ≡ old.choices.items → (first : Path) (x : ℕ → Configuration (language_of b)) → IsWell b old → old.depth ≤ first.depth → old.width ≡ first.width
+pub same_choices : (b : CompiledProgram) (old : Path) (v : Vec Choice Global) → v.items ≡ old.choices.items → (first : Path) (x : ℕ → Configuration (language_of b)) → IsWell b old → old.depth ≤ first.depth → old.width ≡ first.width
     → ((left : ℕ) → Turns (language_of b) (x left) (search_at b old (Over Failed) left)) → Moved b first (record old { choices = v }) x Fails
 same_choices b old v is first x w low width goes = record {
   well = record { store = w.store; frames = w.frames; template = w.template; wide = w.wide; records = subst (λ l. Stand (linked b) old.width (state_of old) old.frames (length old.frames) old.depth (mark_of (state_of old)) (reverse l) old.template) (sym is) w.records; gathered = ap (λ l. collects (reverse l)) is ∙ w.gathered };

@@ -3,15 +3,15 @@ use Rattle.std.proofs.Common.{◌≡◌, ℕ, ◌+◌, ◌≤◌, List, [], ◌�
 use Rattle.pl_terms.specs.Trees.{Tree}
 use Rattle.pl_unify.specs.declared.word.Ref.{Ref}
 use Rattle.pl_unify.specs.State.{tree_at, IsRef}
-use Rattle.search_theory.specs.Search.{Call, Cut, FrameOf, Tries}
+use Rattle.solver_model.specs.Search.{Call, Cut, FrameOf, Tries}
 use Rattle.goal_model.specs.Bodies.{flat}
 use Rattle.goal_model.specs.Rows.{if_then_else, if_then, either, repeat, row_of}
 use Rattle.goal_model.specs.Table.{Items, node, on}
-use Rattle.goal_frames.specs.Frames.{env_of}
-use Rattle.goal_records.specs.declared.choice.ChoiceKind.TheVariants.{Branch}
-use Rattle.goal_records.specs.declared.library.Library.{Library}
-use Rattle.goal_records.specs.declared.path.Path.{Path}
-use Rattle.goal_records.specs.Denotation.{naming, language_of, state_of, items_here, world_here}
+use Rattle.goal_state.specs.Frames.{env_of}
+use Rattle.goal_state.specs.declared.choice.ChoiceKind.TheVariants.{Branch}
+use Rattle.goal_state.specs.declared.compiled.CompiledProgram.{CompiledProgram}
+use Rattle.goal_state.specs.declared.path.Path.{Path}
+use Rattle.goal_state.specs.Denotation.{naming, language_of, state_of, items_here, world_here}
 use Rattle.goal_moves.specs.declared.active.Rest.{Rest}
 use Rattle.goal_moves.specs.declared.active.Active.{Active}
 use Rattle.goal_moves.specs.declared.going.Going.TheVariants.{On}
@@ -20,19 +20,19 @@ use Rattle.goal_moves.specs.Moves.{goal_items, called, IsReady, Moved, Entered, 
 use Rattle.goal_moves.proofs.Steady.{Steady, well_deeper, steady_here, steady_entered, steady_branch, steady_at, opened_place, opened_state}
 use Rattle.goal_moves.proofs.Committing.{Goals, entered_items}
 use Rattle.goal_moves.proofs.Turning.{stack_of, acts, reach_one, reach_two, moved_on}
-use Rattle.goal_records.specs.Well.{IsWell}
-use Rattle.goal_records.specs.Steps.{link_to}
-use Rattle.goal_records.proofs.PathLaws.{put_within}
+use Rattle.goal_state.specs.Well.{IsWell}
+use Rattle.goal_state.specs.Steps.{link_to}
+use Rattle.goal_state.proofs.PathLaws.{put_within}
 
 -- a path on which a goal is activated is in order for what follows the goal
-pub ready_well : (b : Library) (p : Path) (a : Active) → IsReady b p a → IsWell b p
+pub ready_well : (b : CompiledProgram) (p : Path) (a : Active) → IsReady b p a → IsWell b p
 ready_well b p a ready = let deep = ready.depth in well_deeper b p (reverse p.choices.items) a.node p.depth (omega (arith, deep)) ready.well
 
-pub steady_well : (b : Library) (old p : Path) (a : Active) (fs : List (FrameOf (language_of b))) (d : ℕ) → IsReady b old a → d ≤ a.node + 1 → Steady b old p d fs → IsWell b p
+pub steady_well : (b : CompiledProgram) (old p : Path) (a : Active) (fs : List (FrameOf (language_of b))) (d : ℕ) → IsReady b old a → d ≤ a.node + 1 → Steady b old p d fs → IsWell b p
 steady_well b old p a fs d ready le s = let deep = ready.depth in let same = s.depth in well_deeper b p (reverse p.choices.items) d p.depth (omega (arith, deep, same, le)) s.well
 
 -- goals in front of what follows a goal, with the record of another way
-pub moved_if_then : (b : Library) (old : Path) (a : Active) (new : Path) (c t : Ref) → IsReady b old a → row_of (naming b) (tree_at (state_of old) a.goal) ≡ if_then (tree_at (state_of old) c) (tree_at (state_of old) t)
+pub moved_if_then : (b : CompiledProgram) (old : Path) (a : Active) (new : Path) (c t : Ref) → IsReady b old a → row_of (naming b) (tree_at (state_of old) a.goal) ≡ if_then (tree_at (state_of old) c) (tree_at (state_of old) t)
     → Entered b old new a.rest (here new) (condition_items b old a c t (items_here b old a.rest.f a.rest.pc)) → Moved b old new (called b old a.node (goal_items b old a)) On
 moved_if_then b old a new c t ready is h =
     let items : Items ℕ = condition_items b old a c t (items_here b old a.rest.f a.rest.pc) in
@@ -40,7 +40,7 @@ moved_if_then b old a new c t ready is h =
     (reach_one b old a items (acts b old a (if_then (tree_at (state_of old) c) (tree_at (state_of old) t)) is))
 
 -- items were put, and a record opened that goes on with them
-module _ (b : Library) (old : Path) (a : Active) (ready : IsReady b old a) (p q : Path) (at : Rest) (other : Items ℕ) (g : Entered b old p a.rest at other) (o : OpenedHere p q Branch at.f at.pc a.setting a.node) where
+module _ (b : CompiledProgram) (old : Path) (a : Active) (ready : IsReady b old a) (p q : Path) (at : Rest) (other : Items ℕ) (g : Entered b old p a.rest at other) (o : OpenedHere p q Branch at.f at.pc a.setting a.node) where
   pub branch_steady : Steady b old q (a.node + 1) (Tries a.node (on a.node (world_here b old) other ∷ []) ∷ stack_of b old)
   branch_steady =
       steady_branch b old p q at.f at.pc a.setting a.node (stack_of b old) other o ready.base

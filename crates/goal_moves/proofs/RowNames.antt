@@ -21,7 +21,7 @@ use Rattle.pl_builtin_ends.proofs.Known.{number-known}
 use Rattle.pl_builtins.specs.Ends.{row_at}
 use Rattle.goal_model.specs.Bodies.{is_named}
 use Rattle.goal_model.specs.Rows.{Row, commit, if_then_else, if_then, either, negation, once, calling, in_module, from_context, repeat, throwing, catching, collecting, plain, row_of, name_of, arity_of, builtin_or_user, other_row, call_row, either_row}
-use Rattle.goal_terms.proofs.Places.{found}
+use Rattle.goal_constructs.proofs.Places.{found}
 
 -- ---- rows of the table
 

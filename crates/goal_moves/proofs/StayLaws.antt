@@ -2,8 +2,8 @@
 use Rattle.std.proofs.Common.{◌≡◌, ℕ, Bool, true, false, List, [], ◌∷◌, ◌++◌, Option, Some, None, Ok, refl, sym, ap, ◌∙◌, subst, map, codes, if◌then◌else◌}
 use Rattle.std.proofs.lemmas.List.{map-append}
 use Rattle.pl_terms.specs.Trees.{Tree, var, int, atom, comp, nil, cons}
-use Rattle.run_model.specs.Substitution.{apply, replace}
-use Rattle.search_theory.specs.Search.{Call}
+use Rattle.unifier_model.specs.Substitution.{apply, replace}
+use Rattle.solver_model.specs.Search.{Call}
 use Rattle.builtin_model.specs.Naming.{Naming}
 use Rattle.builtin_model.specs.Faults.{term_of_one}
 use Rattle.unit_model.specs.Directives.{is_control}

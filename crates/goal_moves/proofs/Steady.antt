@@ -4,28 +4,28 @@ use Rattle.pl_terms.specs.Occurrence.{from_to}
 use Rattle.pl_unify.specs.declared.word.Ref.{Ref}
 use Rattle.pl_unify.specs.declared.store.Mark.{Mark}
 use Rattle.pl_unify.specs.State.{State, IsRef, Grows}
-use Rattle.search_theory.specs.Search.{FrameOf, Tries}
+use Rattle.solver_model.specs.Search.{FrameOf, Tries}
 use Rattle.goal_model.specs.Table.{Items, World, on, place, leads}
-use Rattle.goal_frames.specs.declared.frames.Setting.{Setting}
-use Rattle.goal_frames.specs.Frames.{items_of, FramesFit}
-use Rattle.goal_frames.proofs.StoreLaws.{items_stay, fits_take}
+use Rattle.goal_state.specs.declared.frames.Setting.{Setting}
+use Rattle.goal_state.specs.Frames.{items_of, FramesFit}
+use Rattle.goal_state.proofs.StoreLaws.{items_stay, fits_take}
 use Rattle.pl_store.specs.Linked.{Linked}
-use Rattle.goal_records.specs.declared.choice.Choice.{Choice}
-use Rattle.goal_records.specs.declared.choice.ChoiceKind.{ChoiceKind}
-use Rattle.goal_records.specs.declared.choice.ChoiceKind.TheVariants.{Branch}
-use Rattle.goal_records.specs.declared.library.Library.{Library}
-use Rattle.goal_records.specs.declared.path.Path.{Path}
-use Rattle.goal_records.specs.Denotation.{bodies, linked, language_of, state_of, template_of, world_of, items_here, world_here, frames_on, outer_of}
-use Rattle.goal_records.specs.Well.{Older, Stands, Stand, KindFits, TemplateFits, IsWellWith, floor_of, mark_of, collects}
-use Rattle.goal_records.specs.Steps.{Opened, link_to}
-use Rattle.goal_records.proofs.RecordLaws.{stand_wider}
-use Rattle.goal_records.proofs.PathLaws.{grown_frames_on, grown_well, put_well, put_within, opened_choices, opened_frames_on, opened_items}
+use Rattle.goal_state.specs.declared.choice.Choice.{Choice}
+use Rattle.goal_state.specs.declared.choice.ChoiceKind.{ChoiceKind}
+use Rattle.goal_state.specs.declared.choice.ChoiceKind.TheVariants.{Branch}
+use Rattle.goal_state.specs.declared.compiled.CompiledProgram.{CompiledProgram}
+use Rattle.goal_state.specs.declared.path.Path.{Path}
+use Rattle.goal_state.specs.Denotation.{bodies, linked, language_of, state_of, template_of, world_of, items_here, world_here, frames_on, outer_of}
+use Rattle.goal_state.specs.Well.{Older, Stands, Stand, KindFits, TemplateFits, IsWellWith, floor_of, mark_of, collects}
+use Rattle.goal_state.specs.Steps.{Opened, link_to}
+use Rattle.goal_state.proofs.RecordLaws.{stand_wider}
+use Rattle.goal_state.proofs.PathLaws.{grown_frames_on, grown_well, put_well, put_within, opened_choices, opened_frames_on, opened_items}
 use Rattle.goal_moves.specs.declared.active.Rest.{Rest}
 use Rattle.goal_moves.specs.Control.{Grew, OpenedHere}
 use Rattle.goal_moves.specs.Moves.{Entered}
 
 -- a path whose records are in order for a node of depth d and stand for these frames, with the same world, depth and width as another
-pub record Steady (b : Library) (old p : Path) (d : ℕ) (fs : List (FrameOf (language_of b))) : Type 0 where
+pub record Steady (b : CompiledProgram) (old p : Path) (d : ℕ) (fs : List (FrameOf (language_of b))) : Type 0 where
   pub well : IsWellWith b p (reverse p.choices.items) d
   pub frames : frames_on b p (reverse p.choices.items) ≡ fs
   pub world : world_here b p ≡ world_here b old
@@ -36,15 +36,15 @@ pub record Steady (b : Library) (old p : Path) (d : ℕ) (fs : List (FrameOf (la
 older_same : (m : Mark) → Older m m
 older_same m = record { cells = omega arith; trail = omega arith; vars = omega arith }
 
-floor_within : (b : Library) (p : Path) (cs : List Choice) (d : ℕ) → IsWellWith b p cs d → floor_of cs ≤ length p.frames
+floor_within : (b : CompiledProgram) (p : Path) (cs : List Choice) (d : ℕ) → IsWellWith b p cs d → floor_of cs ≤ length p.frames
 floor_within b p [] d w = omega arith
 floor_within b p (c ∷ cs) d w = w.records.0.rest
 
-pub floor_fits : (b : Library) (p : Path) (d : ℕ) → IsWellWith b p (reverse p.choices.items) d → floor_of (reverse p.choices.items) ≤ length p.frames
+pub floor_fits : (b : CompiledProgram) (p : Path) (d : ℕ) → IsWellWith b p (reverse p.choices.items) d → floor_of (reverse p.choices.items) ≤ length p.frames
 floor_fits b p d w = floor_within b p (reverse p.choices.items) d w
 
 -- a deeper node serves as well
-pub well_deeper : (b : Library) (p : Path) (cs : List Choice) (d e : ℕ) → d ≤ e → IsWellWith b p cs d → IsWellWith b p cs e
+pub well_deeper : (b : CompiledProgram) (p : Path) (cs : List Choice) (d e : ℕ) → d ≤ e → IsWellWith b p cs d → IsWellWith b p cs e
 well_deeper b p cs d e le w = record {
   store = w.store;
   frames = w.frames;
@@ -54,7 +54,7 @@ well_deeper b p cs d e le w = record {
   gathered = w.gathered;
 }
 
-pub steady_here : (b : Library) (p : Path) (d : ℕ) → IsWellWith b p (reverse p.choices.items) d → Steady b p p d (frames_on b p (reverse p.choices.items))
+pub steady_here : (b : CompiledProgram) (p : Path) (d : ℕ) → IsWellWith b p (reverse p.choices.items) d → Steady b p p d (frames_on b p (reverse p.choices.items))
 steady_here b p d w = record { well = w; frames = refl; world = refl; depth = refl; width = refl; next = refl }
 
 -- ---- a store with more places
@@ -63,7 +63,7 @@ template_grown : (s s' : State) (v : ℕ) (t : Option Ref) → Grows s s' → Te
 template_grown s s' v None g h = λ i. map (λ n. g.variables n i) (from_to 0 v)
 template_grown s s' v (Some r) g h = ap (λ t. t ∷ []) (g.places r h)
 
-module _ (b : Library) (p q : Path) (g : Grew p q) where
+module _ (b : CompiledProgram) (p q : Path) (g : Grew p q) where
   pub grown_world : (d : ℕ) → IsWellWith b p (reverse p.choices.items) d → world_here b q ≡ world_here b p
   grown_world d w =
       let t : template_of (state_of q) p.width p.template ≡ template_of (state_of p) p.width p.template = template_grown (state_of p) (state_of q) p.width p.template g.grows w.template in
@@ -95,7 +95,7 @@ onto r x = record x { frames = r.frames; f = r.f; pc = r.pc }
 
 -- ---- goals that are put before what is to be run
 
-module _ (b : Library) (p q : Path) (rest at : Rest) (items : Items ℕ) (h : Entered b p q rest at items) where
+module _ (b : CompiledProgram) (p q : Path) (rest at : Rest) (items : Items ℕ) (h : Entered b p q rest at items) where
   pub entered_state : state_of q ≡ state_of p
   entered_state = ap (λ r. state_of r) h.others
 
@@ -126,7 +126,7 @@ module _ (b : Library) (p q : Path) (rest at : Rest) (items : Items ℕ) (h : En
   }
 
 -- a path that goes on from another place
-pub steady_at : (b : Library) (old p : Path) (d f pc : ℕ) (fs : List (FrameOf (language_of b))) → Steady b old p d fs → Steady b old (record p { f = f; pc = pc }) d fs
+pub steady_at : (b : CompiledProgram) (old p : Path) (d f pc : ℕ) (fs : List (FrameOf (language_of b))) → Steady b old p d fs → Steady b old (record p { f = f; pc = pc }) d fs
 steady_at b old p d f pc fs s = record {
   well = record { store = s.well.store; frames = s.well.frames; template = s.well.template; wide = s.well.wide; records = s.well.records; gathered = s.well.gathered };
   frames = s.frames;
@@ -144,7 +144,7 @@ pub record IsPlain (l : Linked) (s : State) (kind : ChoiceKind) (t : Option Ref)
   pub outer : outer_of kind t ≡ t
   pub counts : (mark : Mark) (rest depth : ℕ) (cs : List Choice) → collects (record { kind = kind; mark = mark; rest = rest; depth = depth } ∷ cs) ≡ collects cs
 
-module _ (b : Library) (p q : Path) (kind : ChoiceKind) (parent ppc : ℕ) (setting : Setting) (node : ℕ) (h : OpenedHere p q kind parent ppc setting node) where
+module _ (b : CompiledProgram) (p q : Path) (kind : ChoiceKind) (parent ppc : ℕ) (setting : Setting) (node : ℕ) (h : OpenedHere p q kind parent ppc setting node) where
   s : State
   s = state_of p
 
@@ -220,7 +220,7 @@ module _ (b : Library) (p q : Path) (kind : ChoiceKind) (parent ppc : ℕ) (sett
   }
 
 -- a record whose alternative goes on from a place
-pub steady_branch : (b : Library) (old p q : Path) (parent ppc : ℕ) (setting : Setting) (node : ℕ) (fs : List (FrameOf (language_of b))) (items : Items ℕ) (h : OpenedHere p q Branch parent ppc setting node)
+pub steady_branch : (b : CompiledProgram) (old p q : Path) (parent ppc : ℕ) (setting : Setting) (node : ℕ) (fs : List (FrameOf (language_of b))) (items : Items ℕ) (h : OpenedHere p q Branch parent ppc setting node)
     → setting.base ≤ (state_of old).next → Steady b old p node fs → items_here b p parent ppc ≡ items
     → Steady b old q (node + 1) (Tries node (on node (world_here b old) items ∷ []) ∷ fs)
 steady_branch b old p q parent ppc setting node fs items h base st is =

@@ -1,28 +1,28 @@
 -- Paths on which a clause is taken.
 use Rattle.std.proofs.Common.{◌≡◌, ℕ, ◌+◌, ◌<◌, List, ◌++◌, refl, sym, ap, ◌∙◌, subst, arith, length, reverse, map}
 use Rattle.pl_terms.specs.Trees.{Tree}
-use Rattle.run_model.specs.Substitution.{apply, raise}
+use Rattle.unifier_model.specs.Substitution.{apply, raise}
 use Rattle.pl_unify.specs.State.{State, tree_at, bound}
-use Rattle.search_theory.specs.Search.{At, FrameOf}
-use Rattle.search_theory.specs.Configurations.{Configuration, Turns}
-use Rattle.search_theory.proofs.TurnLaws.{stands}
+use Rattle.solver_model.specs.Search.{At, FrameOf}
+use Rattle.solver_model.specs.Configurations.{Configuration, Turns}
+use Rattle.solver_model.proofs.TurnLaws.{stands}
 use Rattle.goal_model.specs.Program.{Clause}
 use Rattle.goal_model.specs.Table.{Items, World, Resolution, item_under, body_items}
 use Rattle.goal_code.specs.Continuations.{Running, items_from}
 use Rattle.goal_code.proofs.ContinuationLaws.{body_items_are}
-use Rattle.goal_terms.proofs.NameLaws.{control_names}
-use Rattle.goal_frames.specs.Frames.{running, env_of}
-use Rattle.goal_heads.specs.Heads.{Took}
+use Rattle.goal_constructs.proofs.NameLaws.{control_names}
+use Rattle.goal_state.specs.Frames.{running, env_of}
+use Rattle.clause_code.specs.Heads.{Took}
 use Rattle.pl_store.specs.Linked.{clause_at}
 use Rattle.pl_store.specs.Runs.{program_of}
 use Rattle.clause_code.specs.Codes.{code_at}
-use Rattle.goal_records.specs.declared.library.Library.{Library}
-use Rattle.goal_records.specs.declared.path.Path.{Path}
-use Rattle.goal_records.specs.Denotation.{linked, naming, language_of, bodies, state_of, items_here, world_here, frames_on}
-use Rattle.goal_records.specs.Well.{IsLibrary, IsWellWith}
-use Rattle.goal_records.proofs.PathLaws.{grown_frames_on, grown_well}
-use Rattle.goal_records.proofs.BindLaws.{bound_items, bound_world}
-use Rattle.goal_moves.specs.declared.user.Attempt.{Attempt}
+use Rattle.goal_state.specs.declared.compiled.CompiledProgram.{CompiledProgram}
+use Rattle.goal_state.specs.declared.path.Path.{Path}
+use Rattle.goal_state.specs.Denotation.{linked, naming, language_of, bodies, state_of, items_here, world_here, frames_on}
+use Rattle.goal_state.specs.Well.{IsCompiled, IsWellWith}
+use Rattle.goal_state.proofs.PathLaws.{grown_frames_on, grown_well}
+use Rattle.goal_state.proofs.BindLaws.{bound_items, bound_world}
+use Rattle.goal_moves.specs.declared.procedures.Attempt.{Attempt}
 use Rattle.goal_moves.specs.declared.going.Going.TheVariants.{On}
 use Rattle.goal_moves.specs.Clauses.{clauses_after, NothingFits, body_setting, body_rest}
 use Rattle.goal_moves.specs.Moves.{tried, IsTrying, Moved, Entered, here}
@@ -30,11 +30,11 @@ use Rattle.goal_moves.proofs.NextLaws.{clauses_first}
 use Rattle.goal_moves.proofs.AttemptLaws.{split_map, items_by, world_by, turn_last_leads}
 use Rattle.goal_moves.proofs.TryLaws.{well_deeper, resolution_at, tried_by}
 
-abbrev running_up : Library → ℕ → ℕ → Attempt → (Tree ℕ → Tree ℕ) → Running
+abbrev running_up : CompiledProgram → ℕ → ℕ → Attempt → (Tree ℕ → Tree ℕ) → Running
 running_up b c base a up = record { words = (code_at b.codes c).body.words; code = (code_at b.codes c).goals.code; up = up; env = env_of a.setting; reach = a.setting.depth }
 
 -- the items of a clause's body under a unifier
-body_under : (b : Library) (a : Attempt) (c base : ℕ) (s : State) (bs : List (ℕ × Tree ℕ)) → IsLibrary b → c < length (linked b).clauses → ((t : Tree ℕ) → apply (bound s) (raise base t) ≡ apply bs (raise base t)) → (after : Items ℕ) (outer : ℕ → Items ℕ)
+body_under : (b : CompiledProgram) (a : Attempt) (c base : ℕ) (s : State) (bs : List (ℕ × Tree ℕ)) → IsCompiled b → c < length (linked b).clauses → ((t : Tree ℕ) → apply (bound s) (raise base t) ≡ apply bs (raise base t)) → (after : Items ℕ) (outer : ℕ → Items ℕ)
     → items_from (running (bodies b) s (body_setting a c base)) after outer (code_at b.codes c).goals.start
     ≡ map (item_under bs) (body_items (naming b) (raise base (clause_at (linked b) c).clause.body) (env_of a.setting) a.setting.depth) ++ after
 body_under b a c base s bs lib lt terms after outer =
@@ -42,10 +42,10 @@ body_under b a c base s bs lib lt terms after outer =
     ∙ body_items_are (naming b) b.constructs.names.control (code_at b.codes c).body.words (code_at b.codes c).goals.code (code_at b.codes c).goals.start (clause_at (linked b) c).clause.body
     (control_names (naming b) b.constructs lib.constructs) (lib.codes.each c lt).goals base bs (env_of a.setting) a.setting.depth after outer
 
-abbrev pub at_point : (b : Library) → ℕ → List (FrameOf (language_of b)) → ℕ → Items ℕ → World ℕ → Configuration (language_of b)
+abbrev pub at_point : (b : CompiledProgram) → ℕ → List (FrameOf (language_of b)) → ℕ → Items ℕ → World ℕ → Configuration (language_of b)
 at_point b left fs e items world = stands (language_of b) (At (record { depth = e; items = items; world = world })) left (program_of (linked b)).clauses fs
 
-module _ (b : Library) (lib : IsLibrary b) (p q : Path) (a : Attempt) (c base : ℕ) (is_base : base ≡ (state_of p).next) (others : q ≡ record p { store = q.store }) (t : IsTrying b p a c)
+module _ (b : CompiledProgram) (lib : IsCompiled b) (p q : Path) (a : Attempt) (c base : ℕ) (is_base : base ≡ (state_of p).next) (others : q ≡ record p { store = q.store }) (t : IsTrying b p a c)
     (took : Took (state_of p) (state_of q) (tree_at (state_of p) a.goal) (clause_at (linked b) c).clause.head (clause_at (linked b) c).clause.width) where
   abbrev res : Resolution ℕ
   res = resolution_at b p a

@@ -4,25 +4,25 @@ use Rattle.pl_terms.specs.Trees.{Tree}
 use Rattle.pl_terms.specs.Occurrence.{canon}
 use Rattle.pl_unify.specs.declared.word.Ref.{Ref}
 use Rattle.pl_unify.specs.State.{State, tree_at, IsRef, Grows}
-use Rattle.search_theory.specs.Search.{Call, Cut, Fail, FrameOf, Tries, At, pops}
-use Rattle.search_theory.specs.Configurations.{Turns}
+use Rattle.solver_model.specs.Search.{Call, Cut, Fail, FrameOf, Tries, At, pops}
+use Rattle.solver_model.specs.Configurations.{Turns}
 use Rattle.goal_model.specs.Bodies.{flat}
 use Rattle.goal_model.specs.Environments.{Environment, argument_place}
 use Rattle.goal_model.specs.Table.{Items, World, Moved as Activation, node, on, raised, unless_raised}
 use Rattle.pl_store.specs.Runs.{program_of}
-use Rattle.goal_frames.specs.declared.frames.Setting.{Setting}
-use Rattle.goal_frames.specs.Frames.{env_of}
-use Rattle.goal_records.specs.declared.choice.ChoiceKind.TheVariants.{Branch}
-use Rattle.goal_records.specs.declared.library.Library.{Library}
-use Rattle.goal_records.specs.declared.path.Path.{Path}
-use Rattle.goal_records.specs.Denotation.{linked, naming, language_of, state_of, items_here, world_here}
-use Rattle.goal_records.specs.Well.{IsWell}
-use Rattle.goal_records.specs.Steps.{link_to}
-use Rattle.goal_records.proofs.PathLaws.{put_within}
+use Rattle.goal_state.specs.declared.frames.Setting.{Setting}
+use Rattle.goal_state.specs.Frames.{env_of}
+use Rattle.goal_state.specs.declared.choice.ChoiceKind.TheVariants.{Branch}
+use Rattle.goal_state.specs.declared.compiled.CompiledProgram.{CompiledProgram}
+use Rattle.goal_state.specs.declared.path.Path.{Path}
+use Rattle.goal_state.specs.Denotation.{linked, naming, language_of, state_of, items_here, world_here}
+use Rattle.goal_state.specs.Well.{IsWell}
+use Rattle.goal_state.specs.Steps.{link_to}
+use Rattle.goal_state.proofs.PathLaws.{put_within}
 use Rattle.pl_unify.proofs.StoreLaws.{Extends-trans}
-use Rattle.goal_terms.specs.Calling.{IsCalled}
-use Rattle.goal_terms.specs.declared.calling.Called.{Called}
-use Rattle.goal_terms.specs.declared.calling.Called.TheVariants as C
+use Rattle.goal_constructs.specs.Calling.{IsCalled}
+use Rattle.goal_constructs.specs.declared.calling.Called.{Called}
+use Rattle.goal_constructs.specs.declared.calling.Called.TheVariants as C
 use Rattle.goal_moves.specs.declared.active.Rest.{Rest}
 use Rattle.goal_moves.specs.declared.active.Active.{Active}
 use Rattle.goal_moves.specs.declared.going.Going.{Going}
@@ -35,11 +35,11 @@ use Rattle.goal_moves.proofs.Turning.{stack_of, reach_one, reach_two, reach_ball
 use Rattle.goal_moves.proofs.RowMoves.{steady_well}
 
 -- what a goal does that runs what a term was taken for, or throws
-abbrev pub running_or : (b : Library) → Active → Environment ℕ → (Items ℕ) → World ℕ → Result (Tree ℕ) (Tree ℕ) → Activation ℕ
+abbrev pub running_or : (b : CompiledProgram) → Active → Environment ℕ → (Items ℕ) → World ℕ → Result (Tree ℕ) (Tree ℕ) → Activation ℕ
 running_or b a env rest w taken = unless_raised taken rest (λ t. node a.node (on a.node w (flat (naming b) t env (a.node + 1) ++ rest) ∷ []))
 
 -- a ball is thrown where the goal's items would have followed, from a path on which it is known
-pub moved_ball : (b : Library) (old mid new : Path) (a : Active) (ball : Ref) (t : Tree ℕ) (g : Going) → Steady b old mid a.node (stack_of b old) → items_here b mid a.rest.f a.rest.pc ≡ items_here b old a.rest.f a.rest.pc
+pub moved_ball : (b : CompiledProgram) (old mid new : Path) (a : Active) (ball : Ref) (t : Tree ℕ) (g : Going) → Steady b old mid a.node (stack_of b old) → items_here b mid a.rest.f a.rest.pc ≡ items_here b old a.rest.f a.rest.pc
     → tree_at (state_of mid) ball ≡ t → activation b old a ≡ raised t (items_here b old a.rest.f a.rest.pc)
     → Moved b mid new (thrown b mid (canon (tree_at (state_of mid) ball)) (pops (items_here b mid a.rest.f a.rest.pc))) g → Moved b old new (called b old a.node (goal_items b old a)) g
 moved_ball b old mid new a ball t g s rest is act m =
@@ -48,7 +48,7 @@ moved_ball b old mid new a ball t g s rest is act m =
 
 -- ---- a path on which places were added
 
-module _ (b : Library) (old p : Path) (a : Active) (ready : IsReady b old a) (g : Grew old p) where
+module _ (b : CompiledProgram) (old p : Path) (a : Active) (ready : IsReady b old a) (g : Grew old p) where
   pub grown_steady : Steady b old p a.node (stack_of b old)
   grown_steady = steady_grown b old p g old a.node (stack_of b old) (steady_here b old a.node ready.well)
 
@@ -190,7 +190,7 @@ grew_then p q r g h = record {
 
 -- ---- what a term was taken for is run
 
-module _ (b : Library) (old : Path) (a : Active) (ready : IsReady b old a) (setting : Setting) where
+module _ (b : CompiledProgram) (old : Path) (a : Active) (ready : IsReady b old a) (setting : Setting) where
   pub runs_goal : (new : Path) (c : Called) (body : Ref) → Runs b old a setting c → c ≡ C.Goal body → Goals b old new a.rest body setting → Moved b old new (called b old a.node (goal_items b old a)) On
   runs_goal new c body runs is h =
       let taken = subst (IsCalled (state_of old) runs.taken) is runs.is in

@@ -1,8 +1,8 @@
 -- Goals of clauses whose targets are kept.
 use Rattle.std.proofs.Common.{◌≡◌, ℕ, suc, ◌<◌, List, [], ◌∷◌, Some, None, refl, sym, ap, ◌∙◌, subst, arith, length}
 use Rattle.pl_terms.specs.Trees.{Tree, var, int, atom, comp, Trees, nil, cons, count}
-use Rattle.run_model.specs.Substitution.{apply, apply_all, replace_all, raise, raise_all}
-use Rattle.run_model.proofs.Replaced.{apply-atom, apply-comp}
+use Rattle.unifier_model.specs.Substitution.{apply, apply_all, replace_all, raise, raise_all}
+use Rattle.unifier_model.proofs.Replaced.{apply-atom, apply-comp}
 use Rattle.pl_unify.specs.declared.word.View.{View}
 use Rattle.pl_unify.specs.declared.word.View.TheVariants as V
 use Rattle.pl_unify.specs.Code.{code_tree, code_tree_in}
@@ -12,17 +12,17 @@ use Rattle.unit_model.specs.Facts.{Indicator}
 use Rattle.goal_code.specs.declared.instruction.Instruction.{Instruction}
 use Rattle.goal_code.specs.declared.instruction.Instruction.TheVariants.{Goal}
 use Rattle.goal_code.specs.Runs.{goal_of, next_of}
-use Rattle.goal_frames.specs.declared.frames.Setting.{Setting}
-use Rattle.goal_terms.specs.Kinds.{IsNamed}
+use Rattle.goal_state.specs.declared.frames.Setting.{Setting}
+use Rattle.goal_constructs.specs.Kinds.{IsNamed}
 use Rattle.pl_store.specs.Linked.{Row, visible_in}
 use Rattle.pl_store.specs.Rules.{indicator_of}
-use Rattle.goal_targets.specs.declared.target.Target.{Target}
-use Rattle.goal_targets.specs.declared.target.Target.TheVariants as T
-use Rattle.goal_targets.specs.Targets.{seen_from, IsTarget, HasTarget, led_at, target_at, home_of}
-use Rattle.goal_records.specs.declared.library.Library.{Library}
-use Rattle.goal_records.specs.declared.path.Path.{Path}
-use Rattle.goal_records.specs.Denotation.{naming, bodies, state_of}
-use Rattle.goal_records.specs.Well.{IsLibrary}
+use Rattle.clause_code.specs.declared.target.Target.{Target}
+use Rattle.clause_code.specs.declared.target.Target.TheVariants as T
+use Rattle.clause_code.specs.Targets.{seen_from, IsTarget, HasTarget, led_at, target_at, home_of}
+use Rattle.goal_state.specs.declared.compiled.CompiledProgram.{CompiledProgram}
+use Rattle.goal_state.specs.declared.path.Path.{Path}
+use Rattle.goal_state.specs.Denotation.{naming, bodies, state_of}
+use Rattle.goal_state.specs.Well.{IsCompiled}
 use Rattle.goal_moves.specs.declared.active.Active.{Active}
 use Rattle.goal_moves.specs.Goals.{IsOfTarget}
 use Rattle.goal_moves.specs.Moves.{IsCode}
@@ -58,7 +58,7 @@ named_seen rows m (int z) h = absurd h
 named_seen rows m (atom s) h = (record { name = s; arity = 0 }, refl, refl)
 named_seen rows m (comp s ts) h = (record { name = s; arity = count ts }, refl, refl)
 
-of_target : (b : Library) (p : Path) (a : Active) (home m : ℕ) (r : View) (t : Target) → IsLibrary b → home ≡ m → (IsNamed r → root (tree_at (state_of p) a.goal) ≡ r) → IsTarget b.constructs b.tables.rows m r t → IsOfTarget b p a home t
+of_target : (b : CompiledProgram) (p : Path) (a : Active) (home m : ℕ) (r : View) (t : Target) → IsCompiled b → home ≡ m → (IsNamed r → root (tree_at (state_of p) a.goal) ≡ r) → IsTarget b.constructs b.tables.rows m r t → IsOfTarget b p a home t
 of_target b p a home m r (T.Plain row) lib e is h = h.1 (naming b) lib.constructs (state_of p) a.goal (is h.0)
 of_target b p a home m r (T.User None) lib e is h = tt
 of_target b p a home m r (T.User (Some proc)) lib e is h =
@@ -71,7 +71,7 @@ of_target b p a home m r (T.User (Some proc)) lib e is h =
     )
 of_target b p a home m r T.Construct lib e is h = tt
 
-module _ (b : Library) (p : Path) (c : Instruction) (st : Setting) (code : IsCode b p c st) (lib : IsLibrary b) where
+module _ (b : CompiledProgram) (p : Path) (c : Instruction) (st : Setting) (code : IsCode b p c st) (lib : IsCompiled b) where
   clause_linked : st.clause < length b.tables.clauses
   clause_linked = let lt = clause_there b p c st code in let count = lib.codes.count in omega (arith, lt, count)
 

@@ -1,10 +1,10 @@
 -- Alternatives that are none, before others of a node that is not searched now.
 use Rattle.std.proofs.Common.{◌≡◌, ℕ, List, [], ◌∷◌, ◌++◌, refl, sym, ap, ◌∙◌, arith, length-append}
-use Rattle.search_theory.specs.Search.{Item, Language, Call, Cut, Pop, Fail, At, Over, Tries, FrameOf, PointOf, Go, after, attempted, tries, of_point, found, resume, ended_by}
-use Rattle.search_theory.specs.Frames.{top_end, value}
-use Rattle.search_theory.specs.Configurations.{ItemsOk, SaneAt, AlternativesSane, Turns}
-use Rattle.search_theory.proofs.TurnLaws.{stands}
-use Rattle.search_theory.proofs.SkipLaws.{Hopeless}
+use Rattle.solver_model.specs.Search.{Item, Language, Call, Cut, Pop, Fail, At, Over, Tries, FrameOf, PointOf, Go, after, attempted, tries, of_point, found, resume, ended_by}
+use Rattle.solver_model.specs.Frames.{top_end, value}
+use Rattle.solver_model.specs.Configurations.{ItemsOk, SaneAt, AlternativesSane, Turns}
+use Rattle.solver_model.proofs.TurnLaws.{stands}
+use Rattle.solver_model.proofs.SkipLaws.{Hopeless}
 
 module _ (L : Language) where
   tries-thin : (go : Go L) (e : ℕ) (skipped alts : List L.Alternative) → Hopeless L skipped → (l : ℕ) (c : L.Clauses) → tries L go e (skipped ++ alts) l c ≡ tries L go e alts l c

@@ -3,18 +3,19 @@ use Rattle.std.proofs.Common.{◌≡◌, ℕ, ◌-◌, ◌<◌, ◌≤◌, false
 use Rattle.pl_terms.specs.Trees.{Tree}
 use Rattle.pl_unify.specs.declared.word.Ref.{Ref}
 use Rattle.pl_unify.specs.State.{State, state_at, Extends}
-use Rattle.search_theory.specs.Search.{Over, Thrown, Tries, Catches, Language, PointOf, FrameOf, has, pops}
-use Rattle.search_theory.specs.Configurations.{Configuration, Sane, Falling, Turns, weight}
-use Rattle.search_theory.proofs.TurnLaws.{turns_then, turns_same, turn_throw_past, turn_throw_on, turn_gather_throw}
+use Rattle.solver_model.specs.Search.{Over, Thrown, Tries, Catches, Language, PointOf, FrameOf, has, pops}
+use Rattle.solver_model.specs.Configurations.{Configuration, Sane, Falling, Turns, weight}
+use Rattle.solver_model.proofs.TurnLaws.{turns_then, turns_same, turn_throw_past, turn_throw_on, turn_gather_throw}
 use Rattle.pl_store.specs.Runs.{program_of}
-use Rattle.goal_frames.specs.Frames.{ClauseCode, env_of, items_of}
-use Rattle.goal_records.specs.declared.choice.Choice.{Choice}
-use Rattle.goal_records.specs.declared.choice.ChoiceKind.TheVariants.{Clauses, Branch, Catch, Collect}
-use Rattle.goal_records.specs.declared.library.Library.{Library}
-use Rattle.goal_records.specs.declared.path.Path.{Path}
-use Rattle.goal_records.specs.Denotation.{bodies, linked, language_of, state_of, answers_of, frames_on, frames_by, frame_from, rest_items, setting_at, outer_of, outer_answers, first, search_at}
-use Rattle.goal_records.specs.Well.{Stand, TemplateFits, IsWell, IsWellWith, floor_of, mark_of, collects}
-use Rattle.goal_records.proofs.RecordLaws.{stand_wider}
+use Rattle.goal_code.specs.BodyCode.{BodyCode}
+use Rattle.goal_state.specs.Frames.{env_of, items_of}
+use Rattle.goal_state.specs.declared.choice.Choice.{Choice}
+use Rattle.goal_state.specs.declared.choice.ChoiceKind.TheVariants.{Clauses, Branch, Catch, Collect}
+use Rattle.goal_state.specs.declared.compiled.CompiledProgram.{CompiledProgram}
+use Rattle.goal_state.specs.declared.path.Path.{Path}
+use Rattle.goal_state.specs.Denotation.{bodies, linked, language_of, state_of, answers_of, frames_on, frames_by, frame_from, rest_items, setting_at, outer_of, outer_answers, first, search_at}
+use Rattle.goal_state.specs.Well.{Stand, TemplateFits, IsWell, IsWellWith, floor_of, mark_of, collects}
+use Rattle.goal_state.proofs.RecordLaws.{stand_wider}
 use Rattle.goal_moves.specs.declared.active.Rest.{Rest}
 use Rattle.goal_moves.specs.Moves.{search_with, resumed}
 use Rattle.goal_moves.specs.Throwing.{exits_here, Meets, Leads, Passed}
@@ -40,7 +41,7 @@ turns_further L x y z t h less light = record {
 }
 
 -- the path of a record that is left, for the node around it
-module _ (b : Library) (p : Path) (c : Choice) (w : IsWellWith b p (c ∷ reverse p.choices.items) p.depth) where
+module _ (b : CompiledProgram) (p : Path) (c : Choice) (w : IsWellWith b p (c ∷ reverse p.choices.items) p.depth) where
   abbrev L : Language
   L = language_of b
 
@@ -163,7 +164,7 @@ module _ (b : Library) (p : Path) (c : Choice) (w : IsWellWith b p (c ∷ revers
         ∙ ap (λ t. frames_by b p.width (state_of p) p.frames cs t (answers_of q)) template
         ∙ ap (λ g. frames_by b p.width (state_of p) p.frames cs (outer_of c.kind p.template) g) gathered
 
-    pub passes_collect : (f pc : ℕ) → ((x : ℕ → ClauseCode) (s : State) → items_of x s q.frames f pc ≡ items_of x s q.frames c.rest 0) → (ball : Tree ℕ) (at : Rest) → Passed b p outside c ball at ball (record { f = f; pc = pc })
+    pub passes_collect : (f pc : ℕ) → ((x : ℕ → BodyCode) (s : State) → items_of x s q.frames f pc ≡ items_of x s q.frames c.rest 0) → (ball : Tree ℕ) (at : Rest) → Passed b p outside c ball at ball (record { f = f; pc = pc })
     passes_collect f pc same ball at = record {
       well = outside_well;
       low = omega (arith, shallow);

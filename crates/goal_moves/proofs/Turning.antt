@@ -4,17 +4,17 @@ use Rattle.std.specs.Prelude.{nat_eq}
 use Rattle.pl_terms.specs.Trees.{Tree}
 use Rattle.pl_terms.specs.Occurrence.{canon}
 use Rattle.pl_unify.specs.State.{tree_at}
-use Rattle.search_theory.specs.Search.{Call, At, Over, Failed, Thrown, Halted, Tries, Opens, PointOf, FrameOf, pops}
-use Rattle.search_theory.specs.Configurations.{Configuration, Turns}
-use Rattle.search_theory.proofs.TurnLaws.{turns_then, turns_same, turn_call, turn_take, turn_last, turn_ends}
+use Rattle.solver_model.specs.Search.{Call, At, Over, Failed, Thrown, Halted, Tries, Opens, PointOf, FrameOf, pops}
+use Rattle.solver_model.specs.Configurations.{Configuration, Turns}
+use Rattle.solver_model.proofs.TurnLaws.{turns_then, turns_same, turn_call, turn_take, turn_last, turn_ends}
 use Rattle.goal_model.specs.Bodies.{Goal}
 use Rattle.goal_model.specs.Rows.{Row, name_of, arity_of, row_of}
 use Rattle.goal_model.specs.Table.{Items, Moved as Activation, node, on, raised, row, place}
 use Rattle.goal_model.proofs.SaneProofs.{table_sane}
 use Rattle.pl_store.specs.Runs.{program_of}
-use Rattle.goal_records.specs.declared.library.Library.{Library}
-use Rattle.goal_records.specs.declared.path.Path.{Path}
-use Rattle.goal_records.specs.Denotation.{linked, naming, language_of, state_of, items_here, world_here, frames_on, point_here, search_at}
+use Rattle.goal_state.specs.declared.compiled.CompiledProgram.{CompiledProgram}
+use Rattle.goal_state.specs.declared.path.Path.{Path}
+use Rattle.goal_state.specs.Denotation.{linked, naming, language_of, state_of, items_here, world_here, frames_on, point_here, search_at}
 use Rattle.goal_moves.specs.declared.active.Active.{Active}
 use Rattle.goal_moves.specs.declared.going.Going.{Going}
 use Rattle.goal_moves.specs.declared.going.Going.TheVariants.{On, Fails, Halts, Uncaught}
@@ -23,15 +23,15 @@ use Rattle.goal_moves.specs.Moves.{Stays, goal_items, called, thrown, Moved}
 use Rattle.goal_moves.proofs.Steady.{Steady, well_deeper}
 
 -- a search at a point, over frames
-abbrev pub at_point : (b : Library) → PointOf (language_of b) → ℕ → List (FrameOf (language_of b)) → Configuration (language_of b)
+abbrev pub at_point : (b : CompiledProgram) → PointOf (language_of b) → ℕ → List (FrameOf (language_of b)) → Configuration (language_of b)
 at_point b point left fs = record { point = point; left = left; clauses = (program_of (linked b)).clauses; frames = fs }
 
 -- the records of a path, as frames
-abbrev pub stack_of : (b : Library) → Path → List (FrameOf (language_of b))
+abbrev pub stack_of : (b : CompiledProgram) → Path → List (FrameOf (language_of b))
 stack_of b p = frames_on b p (reverse p.choices.items)
 
 -- a goal that stands first in a node of this depth, and what follows it
-module _ (b : Library) (old : Path) (e : ℕ) (g : Goal ℕ) (after : Items ℕ) where
+module _ (b : CompiledProgram) (old : Path) (e : ℕ) (g : Goal ℕ) (after : Items ℕ) where
   -- it leads to a point, whatever the steps left
   abbrev pub GoalReaches : PointOf (language_of b) → List (FrameOf (language_of b)) → Type 0
   GoalReaches point fs = (left : ℕ) → Turns (language_of b) (called b old e (Call g ∷ after) left) (at_point b point left fs)
@@ -92,10 +92,10 @@ module _ (b : Library) (old : Path) (e : ℕ) (g : Goal ℕ) (after : Items ℕ)
       }
 
 -- a goal that is activated leads to a point, whatever the steps left
-abbrev pub Reaches : (b : Library) → Path → Active → PointOf (language_of b) → List (FrameOf (language_of b)) → Type 0
+abbrev pub Reaches : (b : CompiledProgram) → Path → Active → PointOf (language_of b) → List (FrameOf (language_of b)) → Type 0
 Reaches b old a point fs = GoalReaches b old a.node (goal_at old a) (items_here b old a.rest.f a.rest.pc) point fs
 
-module _ (b : Library) (old : Path) (a : Active) where
+module _ (b : CompiledProgram) (old : Path) (a : Active) where
   -- what the goal does, where its row is known
   abbrev pub done_by : Row ℕ → Activation ℕ
   done_by r = goal_done_by b old a.node (goal_at old a) (items_here b old a.rest.f a.rest.pc) r
@@ -122,14 +122,14 @@ module _ (b : Library) (old : Path) (a : Active) where
   moved_on new d fs items deep s le is reach = goal_moved_on b old a.node (goal_at old a) (items_here b old a.rest.f a.rest.pc) new d fs items deep s le is reach
 
 -- a turn before a move
-pub stays_then : (b : Library) (x y : Configuration (language_of b)) (p : Path) (left : ℕ) (g : Going) → Turns (language_of b) x y → Stays b (Turns (language_of b) y) p left g → Stays b (Turns (language_of b) x) p left g
+pub stays_then : (b : CompiledProgram) (x y : Configuration (language_of b)) (p : Path) (left : ℕ) (g : Going) → Turns (language_of b) x y → Stays b (Turns (language_of b) y) p left g → Stays b (Turns (language_of b) x) p left g
 stays_then b x y p left On t h = turns_then (language_of b) x y (search_at b p (point_here b p) left) t h
 stays_then b x y p left Fails t h = turns_then (language_of b) x y (search_at b p (Over Failed) left) t h
 stays_then b x y p left (Halts z) t h = turns_then (language_of b) x y (search_at b p (Over (Halted z)) left) t h
 stays_then b x y p left (Uncaught ball) t h = (h.0, h.1, turns_then (language_of b) x y (search_at b p (Over (Thrown ball.value h.0)) left) t h.2)
 
 -- a ball goes outward from where the goal leads
-pub moved_raised : (b : Library) (old mid new : Path) (a : Active) (d : ℕ) (fs : List (FrameOf (language_of b))) (ball ball' : Tree ℕ) (active active' : List ℕ) (g : Going)
+pub moved_raised : (b : CompiledProgram) (old mid new : Path) (a : Active) (d : ℕ) (fs : List (FrameOf (language_of b))) (ball ball' : Tree ℕ) (active active' : List ℕ) (g : Going)
     → Steady b old mid d fs → ball' ≡ ball → active' ≡ active → Reaches b old a (Over (Thrown ball active)) fs → Moved b mid new (thrown b mid ball' active') g → Moved b old new (called b old a.node (goal_items b old a)) g
 moved_raised b old mid new a d fs ball ball' active active' g s same exits reach m = record {
   well = m.well;

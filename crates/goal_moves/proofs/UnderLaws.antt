@@ -1,28 +1,28 @@
 -- Paths in whose store two places were unified, where the store grew before and after.
 use Rattle.std.proofs.Common.{◌≡◌, ℕ, List, refl, ap, ◌∙◌, reverse, map}
 use Rattle.pl_terms.specs.Trees.{Tree}
-use Rattle.run_model.specs.Substitution.{apply}
+use Rattle.unifier_model.specs.Substitution.{apply}
 use Rattle.pl_unify.specs.declared.word.Ref.{Ref}
 use Rattle.pl_unify.specs.State.{Stored, tree_at, IsRef, IsStore, Extends, Grows}
 use Rattle.pl_unify.specs.Steps.{Unified}
 use Rattle.pl_unify.proofs.StoreLaws.{Extends-trans}
 use Rattle.goal_model.specs.Table.{item_under}
-use Rattle.goal_records.specs.declared.library.Library.{Library}
-use Rattle.goal_records.specs.declared.path.Path.{Path}
-use Rattle.goal_records.specs.Denotation.{state_of, items_here, world_here, frames_on}
-use Rattle.goal_records.specs.Well.{IsWellWith}
-use Rattle.goal_records.proofs.PathLaws.{grown_frames_on, grown_well}
-use Rattle.goal_records.proofs.BindLaws.{grown_items, grown_world, bound_items, bound_world, template_same}
+use Rattle.goal_state.specs.declared.compiled.CompiledProgram.{CompiledProgram}
+use Rattle.goal_state.specs.declared.path.Path.{Path}
+use Rattle.goal_state.specs.Denotation.{state_of, items_here, world_here, frames_on}
+use Rattle.goal_state.specs.Well.{IsWellWith}
+use Rattle.goal_state.proofs.PathLaws.{grown_frames_on, grown_well}
+use Rattle.goal_state.proofs.BindLaws.{grown_items, grown_world, bound_items, bound_world, template_same}
 use Rattle.goal_moves.specs.declared.active.Rest.{Rest}
 
 -- a path on which replacements were made, with the number of the next new variable
-pub record IsUnder (b : Library) (q end : Path) (depth : ℕ) (bs : List (ℕ × Tree ℕ)) (next : ℕ) : Type 0 where
+pub record IsUnder (b : CompiledProgram) (q end : Path) (depth : ℕ) (bs : List (ℕ × Tree ℕ)) (next : ℕ) : Type 0 where
   pub well : IsWellWith b end (reverse end.choices.items) depth
   pub frames : frames_on b end (reverse end.choices.items) ≡ frames_on b q (reverse q.choices.items)
   pub items : (at : Rest) → items_here b end at.f at.pc ≡ map (item_under bs) (items_here b q at.f at.pc)
   pub world : world_here b end ≡ record { template = map (apply bs) (world_here b q).template; next = next }
 
-module _ (b : Library) (q : Path) (depth : ℕ) (w : IsWellWith b q (reverse q.choices.items) depth) (S1 S2 S3 : Stored) (grows : Grows (state_of q) S1.state) (left right : Ref) (un : Unified S1.state S2.state left right) (grew : Grows S2.state S3.state)
+module _ (b : CompiledProgram) (q : Path) (depth : ℕ) (w : IsWellWith b q (reverse q.choices.items) depth) (S1 S2 S3 : Stored) (grows : Grows (state_of q) S1.state) (left right : Ref) (un : Unified S1.state S2.state left right) (grew : Grows S2.state S3.state)
     (store1 : IsStore S1.state) (store2 : IsStore S2.state) (store3 : IsStore S3.state) (k : ℕ) (next : S1.state.next ≡ k) (same_next : S3.state.next ≡ S2.state.next) where
   abbrev one : Path
   one = record q { store = S1 }

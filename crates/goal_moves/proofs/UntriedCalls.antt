@@ -11,23 +11,23 @@ use Rattle.goal_model.specs.Choices.{Key, key_of, is_untried}
 use Rattle.goal_model.specs.Environments.{Environment, body_place}
 use Rattle.goal_model.specs.Rows.{row_of, name_of, arity_of, user}
 use Rattle.goal_model.specs.Table.{Items, World, Resolution, resolves, row, by_clauses, node, resolution, Moved as Activation}
-use Rattle.goal_terms.specs.Goals.{arguments_of}
-use Rattle.goal_frames.specs.Frames.{env_of}
+use Rattle.goal_constructs.specs.Goals.{arguments_of}
+use Rattle.goal_state.specs.Frames.{env_of}
 use Rattle.pl_store.specs.Linked.{procedure_at, visible_in, may_match}
 use Rattle.pl_store.specs.Places.{next_place}
 use Rattle.pl_store.specs.Rules.{indicator_of}
 use Rattle.pl_store.specs.Runs.{program_of}
 use Rattle.pl_store.specs.Walks.{clauses_from_place, any_fits}
 use Rattle.pl_store.proofs.WalkLaws.{procedures-found}
-use Rattle.goal_records.specs.declared.library.Library.{Library}
-use Rattle.goal_records.specs.declared.path.Path.{Path}
-use Rattle.goal_records.specs.Denotation.{linked, naming, clauses_on, state_of, items_here, world_here}
-use Rattle.goal_records.specs.Well.{IsLibrary}
-use Rattle.goal_records.proofs.BindLaws.{grown_items, grown_world}
-use Rattle.goal_records.proofs.OpenRecords.{from_here}
+use Rattle.goal_state.specs.declared.compiled.CompiledProgram.{CompiledProgram}
+use Rattle.goal_state.specs.declared.path.Path.{Path}
+use Rattle.goal_state.specs.Denotation.{linked, naming, clauses_on, state_of, items_here, world_here}
+use Rattle.goal_state.specs.Well.{IsCompiled}
+use Rattle.goal_state.proofs.BindLaws.{grown_items, grown_world}
+use Rattle.goal_state.proofs.OpenRecords.{from_here}
 use Rattle.goal_moves.specs.declared.active.Active.{Active}
 use Rattle.goal_moves.specs.declared.active.Rest.{Rest}
-use Rattle.goal_moves.specs.declared.user.Attempt.{Attempt}
+use Rattle.goal_moves.specs.declared.procedures.Attempt.{Attempt}
 use Rattle.goal_moves.specs.Clauses.{IsProcedureOf, passed_goal}
 use Rattle.goal_moves.specs.Control.{goal_at, activation}
 use Rattle.goal_moves.specs.Moves.{goal_items, called, IsReady}
@@ -39,7 +39,7 @@ use Rattle.goal_moves.proofs.GoalLaws.{indicator_is, modes_are}
 use Rattle.goal_moves.proofs.UntriedLaws.{same_records, same_taken_off}
 use Rattle.goal_moves.proofs.UntriedClauses.{behind_skips, behind_none}
 
-module _ (b : Library) (lib : IsLibrary b) (p : Path) (a : Active) (ready : IsReady b p a) (is_user : row_of (naming b) (tree_at (state_of p) a.goal) ≡ user (name_of (naming b) (tree_at (state_of p) a.goal)) (arguments_of (tree_at (state_of p) a.goal))) where
+module _ (b : CompiledProgram) (lib : IsCompiled b) (p : Path) (a : Active) (ready : IsReady b p a) (is_user : row_of (naming b) (tree_at (state_of p) a.goal) ≡ user (name_of (naming b) (tree_at (state_of p) a.goal)) (arguments_of (tree_at (state_of p) a.goal))) where
   abbrev t : Tree ℕ
   t = tree_at (state_of p) a.goal
 

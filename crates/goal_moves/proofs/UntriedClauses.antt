@@ -4,11 +4,11 @@ use Rattle.std.specs.Prelude.{is_some, nat_lt, if◌then◌else◌}
 use Rattle.std.specs.List.{list_any}
 use Rattle.std.proofs.lemmas.List.Folds.{list_any-append}
 use Rattle.pl_terms.specs.Trees.{Tree}
-use Rattle.run_model.specs.Substitution.{raise}
-use Rattle.run_model.specs.Mgu.{mgu}
+use Rattle.unifier_model.specs.Substitution.{raise}
+use Rattle.unifier_model.specs.Mgu.{mgu}
 use Rattle.pl_unify.specs.declared.store.Mark.{Mark}
-use Rattle.pl_unify.specs.State.{State, tree_at}
-use Rattle.search_theory.proofs.SkipLaws.{Hopeless}
+use Rattle.pl_unify.specs.State.{tree_at}
+use Rattle.solver_model.proofs.SkipLaws.{Hopeless}
 use Rattle.goal_model.specs.Program.{Clause, Clauses}
 use Rattle.goal_model.specs.Choices.{Key, key_of, fits, is_untried}
 use Rattle.goal_model.specs.Table.{Resolution, Alternative, Place, resolves}
@@ -16,12 +16,12 @@ use Rattle.pl_store.specs.Linked.{clause_at}
 use Rattle.pl_store.specs.Runs.{program_of}
 use Rattle.pl_store.specs.Walks.{any_fits}
 use Rattle.pl_store.specs.declared.key.ClauseId.{ClauseId}
-use Rattle.goal_records.specs.declared.choice.ChoiceKind.TheVariants as Kind
-use Rattle.goal_records.specs.declared.library.Library.{Library}
-use Rattle.goal_records.specs.declared.path.Path.{Path}
-use Rattle.goal_records.specs.Denotation.{linked, naming, language_of, clauses_on, state_of}
-use Rattle.goal_records.specs.Steps.{Opened}
-use Rattle.goal_moves.specs.declared.user.Attempt.{Attempt}
+use Rattle.goal_state.specs.declared.choice.ChoiceKind.TheVariants as Kind
+use Rattle.goal_state.specs.declared.compiled.CompiledProgram.{CompiledProgram}
+use Rattle.goal_state.specs.declared.path.Path.{Path}
+use Rattle.goal_state.specs.Denotation.{linked, naming, language_of, clauses_on, state_of}
+use Rattle.goal_state.specs.Steps.{Opened}
+use Rattle.goal_moves.specs.declared.procedures.Attempt.{Attempt}
 use Rattle.goal_moves.specs.Clauses.{clauses_after, NothingFits, FitsNext}
 use Rattle.goal_moves.specs.Moves.{IsTrying}
 use Rattle.goal_moves.specs.Untried.{behind_taken, leaves_one, clause_alternatives, TriesLeave}
@@ -42,7 +42,7 @@ fits_later key skipped next h =
     ∙ ap (λ x. any_fits key skipped || x) h
     ∙ or_true (any_fits key skipped)
 
-module _ (b : Library) (all : Clauses ℕ) where
+module _ (b : CompiledProgram) (all : Clauses ℕ) where
   -- those that cannot be taken are passed over
   pub behind_skips : (skipped next : List (Alternative ℕ)) → Hopeless (language_of b) skipped → behind_taken (naming b) all (skipped ++ next) ≡ behind_taken (naming b) all next
   behind_skips [] next h = refl
@@ -86,10 +86,10 @@ module _ (b : Library) (all : Clauses ℕ) where
 
 -- ---- paths on which clauses are tried
 
-alternatives_same : (b : Library) (p q : Path) (a : Attempt) (n : ℕ) → q ≡ record p { store = q.store } → state_of q ≡ state_of p → clause_alternatives b q a n ≡ clause_alternatives b p a n
+alternatives_same : (b : CompiledProgram) (p q : Path) (a : Attempt) (n : ℕ) → q ≡ record p { store = q.store } → state_of q ≡ state_of p → clause_alternatives b q a n ≡ clause_alternatives b p a n
 alternatives_same b p q a n others same = ap (λ (r : Path). clause_alternatives b r a n) others ∙ ap (λ s. clause_alternatives b (with_state p s) a n) same
 
-module _ (b : Library) (p : Path) (a : Attempt) (c : ℕ) (t : IsTrying b p a c) where
+module _ (b : CompiledProgram) (p : Path) (a : Attempt) (c : ℕ) (t : IsTrying b p a c) where
   first_of : clause_alternatives b p a c ≡ map (resolves (resolution_at b p a)) ((clause_at (linked b) c).clause ∷ clauses_after b c)
   first_of = ap (map (resolves (resolution_at b p a))) (clauses_first b c t.fits.0)
 
@@ -135,7 +135,7 @@ module _ (b : Library) (p : Path) (a : Attempt) (c : ℕ) (t : IsTrying b p a c)
       ∙ ap (behind_taken (naming b) (program_of (linked b)).clauses) (sym (alternatives_same b p q a n others same))
 
 -- where clauses were passed over, those from a later one on leave as much
-pub leaves_after : (b : Library) (old mid new : Path) (a : Attempt) (c n : ℕ) → mid.choices ≡ old.choices
+pub leaves_after : (b : CompiledProgram) (old mid new : Path) (a : Attempt) (c n : ℕ) → mid.choices ≡ old.choices
     → behind_taken (naming b) (program_of (linked b)).clauses (clause_alternatives b old a c) ≡ behind_taken (naming b) (program_of (linked b)).clauses (clause_alternatives b mid a n)
     → TriesLeave b mid new a n → TriesLeave b old new a c
 leaves_after b old mid new a c n same behind h =

@@ -3,12 +3,12 @@ use Rattle.std.proofs.Common.{◌≡◌, ℕ, suc, ◌+◌, ◌≤◌, List, [],
 use Rattle.std.specs.Prelude.{nat_lt, if◌then◌else◌}
 use Rattle.std.proofs.lemmas.List.{length-reverse}
 use Rattle.goal_model.specs.Table.{Items}
-use Rattle.goal_frames.specs.declared.frames.Setting.{Setting}
-use Rattle.goal_records.specs.declared.choice.Choice.{Choice}
-use Rattle.goal_records.specs.declared.choice.ChoiceKind.{ChoiceKind}
-use Rattle.goal_records.specs.declared.library.Library.{Library}
-use Rattle.goal_records.specs.declared.path.Path.{Path}
-use Rattle.goal_records.specs.Steps.{kept}
+use Rattle.goal_state.specs.declared.frames.Setting.{Setting}
+use Rattle.goal_state.specs.declared.choice.Choice.{Choice}
+use Rattle.goal_state.specs.declared.choice.ChoiceKind.{ChoiceKind}
+use Rattle.goal_state.specs.declared.compiled.CompiledProgram.{CompiledProgram}
+use Rattle.goal_state.specs.declared.path.Path.{Path}
+use Rattle.goal_state.specs.Steps.{kept}
 use Rattle.goal_moves.specs.declared.active.Rest.{Rest}
 use Rattle.goal_moves.specs.Control.{Grew, OpenedHere}
 use Rattle.goal_moves.specs.Moves.{Entered}
@@ -38,7 +38,7 @@ same_taken_off old p new same off = let e = ap (λ cs. length cs.items) same in 
 pub grew_records : (p q : Path) → Grew p q → q.choices ≡ p.choices
 grew_records p q g = ap (λ r. r.choices) g.others
 
-pub entered_records : (b : Library) (p q : Path) (rest at : Rest) (items : Items ℕ) → Entered b p q rest at items → q.choices ≡ p.choices
+pub entered_records : (b : CompiledProgram) (p q : Path) (rest at : Rest) (items : Items ℕ) → Entered b p q rest at items → q.choices ≡ p.choices
 entered_records b p q rest at items h = ap (λ r. r.choices) h.others
 
 -- ---- a record is opened

@@ -3,8 +3,8 @@ use Rattle.std.proofs.Common.{◌≡◌, ℕ, ◌+◌, List, [], ◌∷◌, Opti
 use Rattle.std.specs.Prelude.{nat_eq}
 use Rattle.pl_terms.specs.Trees.{Tree}
 use Rattle.pl_unify.specs.State.{tree_at}
-use Rattle.run_model.specs.Mgu.{unifier}
-use Rattle.search_theory.specs.Search.{Call}
+use Rattle.unifier_model.specs.Mgu.{unifier}
+use Rattle.solver_model.specs.Search.{Call}
 use Rattle.builtin_model.specs.Naming.{Naming}
 use Rattle.builtin_model.specs.Deeds.{Deed, equal, differ, no, raise, halt, deed}
 use Rattle.builtin_model.specs.Output.{output}
@@ -13,12 +13,12 @@ use Rattle.goal_model.specs.Bodies.{Goal}
 use Rattle.goal_model.specs.Program.{Clauses}
 use Rattle.goal_model.specs.Rows.{plain, row_of, name_of, arity_of}
 use Rattle.goal_model.specs.Table.{World, Items, bound, apart, done}
-use Rattle.goal_frames.specs.declared.frames.Setting.{Setting}
-use Rattle.goal_frames.specs.Frames.{env_of}
+use Rattle.goal_state.specs.declared.frames.Setting.{Setting}
+use Rattle.goal_state.specs.Frames.{env_of}
 use Rattle.pl_store.specs.Runs.{program_of}
-use Rattle.goal_records.specs.declared.library.Library.{Library}
-use Rattle.goal_records.specs.declared.path.Path.{Path}
-use Rattle.goal_records.specs.Denotation.{linked, naming, state_of, items_here, world_here}
+use Rattle.goal_state.specs.declared.compiled.CompiledProgram.{CompiledProgram}
+use Rattle.goal_state.specs.declared.path.Path.{Path}
+use Rattle.goal_state.specs.Denotation.{linked, naming, state_of, items_here, world_here}
 use Rattle.goal_moves.specs.declared.active.Active.{Active}
 use Rattle.goal_moves.specs.Moves.{called, goal_items}
 use Rattle.goal_moves.specs.Untried.{has_more, leaves_one, node_leaves, Leaves}
@@ -41,7 +41,7 @@ module _ (n : Naming ℕ) (c : Clauses ℕ) (e : ℕ) (rest : Items ℕ) (w : Wo
   done_leaves f k bytes (halt z) = refl
 
 -- a goal with this tree and setting, in a node of this depth before what follows from a place on
-pub plain_leaves : (b : Library) (p : Path) (tree : Tree ℕ) (setting : Setting) (node f pc : ℕ) (k : Builtin) (ts : List (Tree ℕ)) → row_of (naming b) tree ≡ plain k ts → (new : Path) → has_more p new ≡ false
+pub plain_leaves : (b : CompiledProgram) (p : Path) (tree : Tree ℕ) (setting : Setting) (node f pc : ℕ) (k : Builtin) (ts : List (Tree ℕ)) → row_of (naming b) tree ≡ plain k ts → (new : Path) → has_more p new ≡ false
     → Leaves b p new (called b p node (Call (record { tree = tree; env = env_of setting; reach = setting.depth }) ∷ items_here b p f pc))
 plain_leaves b p tree setting node f pc k ts its new none = λ left.
     let g : Goal ℕ = record { tree = tree; env = env_of setting; reach = setting.depth } in
@@ -55,5 +55,5 @@ plain_leaves b p tree setting node f pc k ts its new none = λ left.
     )
 
 -- a goal that is activated
-pub active_leaves : (b : Library) (p : Path) (a : Active) (k : Builtin) (ts : List (Tree ℕ)) → row_of (naming b) (tree_at (state_of p) a.goal) ≡ plain k ts → (new : Path) → has_more p new ≡ false → Leaves b p new (called b p a.node (goal_items b p a))
+pub active_leaves : (b : CompiledProgram) (p : Path) (a : Active) (k : Builtin) (ts : List (Tree ℕ)) → row_of (naming b) (tree_at (state_of p) a.goal) ≡ plain k ts → (new : Path) → has_more p new ≡ false → Leaves b p new (called b p a.node (goal_items b p a))
 active_leaves b p a k ts its new none = plain_leaves b p (tree_at (state_of p) a.goal) a.setting a.node a.rest.f a.rest.pc k ts its new none

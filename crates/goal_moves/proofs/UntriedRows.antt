@@ -4,21 +4,21 @@ use Rattle.std.specs.Prelude.{nat_lt, nat_eq}
 use Rattle.pl_terms.specs.Trees.{Tree}
 use Rattle.pl_unify.specs.declared.word.Ref.{Ref}
 use Rattle.pl_unify.specs.State.{tree_at}
-use Rattle.search_theory.specs.Search.{Call, Cut, Fail, At, Opens, FrameOf}
+use Rattle.solver_model.specs.Search.{Call, Cut, Fail, At, Opens, FrameOf}
 use Rattle.goal_model.specs.Bodies.{Goal, flat, goal_of}
 use Rattle.goal_model.specs.Choices.{is_open}
 use Rattle.goal_model.specs.Environments.{argument_place}
 use Rattle.goal_model.specs.Rows.{Row, negation, once, in_module, from_context, catching, row_of}
 use Rattle.goal_model.specs.Table.{Items, Place, Moved as Activation, node, on, raised, unless_raised, module_of, caught}
 use Rattle.pl_store.specs.Runs.{program_of}
-use Rattle.goal_frames.specs.declared.frames.Setting.{Setting}
-use Rattle.goal_frames.specs.Frames.{env_of}
-use Rattle.goal_records.specs.declared.library.Library.{Library}
-use Rattle.goal_records.specs.declared.path.Path.{Path}
-use Rattle.goal_records.specs.Denotation.{linked, naming, language_of, state_of, items_here, world_here}
-use Rattle.goal_terms.specs.Calling.{IsCalled}
-use Rattle.goal_terms.specs.declared.calling.Called.{Called}
-use Rattle.goal_terms.specs.declared.calling.Called.TheVariants as C
+use Rattle.goal_state.specs.declared.frames.Setting.{Setting}
+use Rattle.goal_state.specs.Frames.{env_of}
+use Rattle.goal_state.specs.declared.compiled.CompiledProgram.{CompiledProgram}
+use Rattle.goal_state.specs.declared.path.Path.{Path}
+use Rattle.goal_state.specs.Denotation.{linked, naming, language_of, state_of, items_here, world_here}
+use Rattle.goal_constructs.specs.Calling.{IsCalled}
+use Rattle.goal_constructs.specs.declared.calling.Called.{Called}
+use Rattle.goal_constructs.specs.declared.calling.Called.TheVariants as C
 use Rattle.goal_moves.specs.declared.active.Active.{Active}
 use Rattle.goal_moves.specs.Control.{Grew, Runs, goal_at, activation}
 use Rattle.goal_moves.specs.Moves.{goal_items, called, IsReady}
@@ -30,28 +30,28 @@ use Rattle.goal_moves.proofs.CatchMoves.{catch_frame}
 use Rattle.goal_moves.proofs.UntriedLaws.{grew_records}
 
 -- what an activation leaves untried in its node
-abbrev pub leaves_of : Library → Activation ℕ → Bool
+abbrev pub leaves_of : CompiledProgram → Activation ℕ → Bool
 leaves_of b x = node_leaves (naming b) (program_of (linked b)).clauses x
 
 -- a goal whose row is known
-pub leaves_goal : (b : Library) (old new : Path) (e : ℕ) (g : Goal ℕ) (after : Items ℕ) (r : Row ℕ) (x : Bool) → row_of (naming b) g.tree ≡ r → leaves_of b (goal_done_by b old e g after r) ≡ x → has_more old new ≡ x
+pub leaves_goal : (b : CompiledProgram) (old new : Path) (e : ℕ) (g : Goal ℕ) (after : Items ℕ) (r : Row ℕ) (x : Bool) → row_of (naming b) g.tree ≡ r → leaves_of b (goal_done_by b old e g after r) ≡ x → has_more old new ≡ x
     → Leaves b old new (called b old e (Call g ∷ after))
 leaves_goal b old new e g after r x is says more left = more ∙ sym says ∙ ap (leaves_of b) (sym (goal_acts b old e g after r is))
 
-pub leaves_row : (b : Library) (old new : Path) (a : Active) (r : Row ℕ) (x : Bool) → row_of (naming b) (tree_at (state_of old) a.goal) ≡ r → leaves_of b (done_by b old a r) ≡ x → has_more old new ≡ x
+pub leaves_row : (b : CompiledProgram) (old new : Path) (a : Active) (r : Row ℕ) (x : Bool) → row_of (naming b) (tree_at (state_of old) a.goal) ≡ r → leaves_of b (done_by b old a r) ≡ x → has_more old new ≡ x
     → Leaves b old new (called b old a.node (goal_items b old a))
 leaves_row b old new a r x is says more = leaves_goal b old new a.node (goal_at old a) (items_here b old a.rest.f a.rest.pc) r x is says more
 
 -- a goal whose activation is known
-pub leaves_act : (b : Library) (old new : Path) (a : Active) (act : Activation ℕ) (x : Bool) → activation b old a ≡ act → leaves_of b act ≡ x → has_more old new ≡ x → Leaves b old new (called b old a.node (goal_items b old a))
+pub leaves_act : (b : CompiledProgram) (old new : Path) (a : Active) (act : Activation ℕ) (x : Bool) → activation b old a ≡ act → leaves_of b act ≡ x → has_more old new ≡ x → Leaves b old new (called b old a.node (goal_items b old a))
 leaves_act b old new a act x is says more left = more ∙ sym says ∙ ap (leaves_of b) (sym is)
 
 -- a ball leaves nothing
-unless_quiet : {A : Type 0} (b : Library) (taken : Result A (Tree ℕ)) (rest : Items ℕ) (go : A → Activation ℕ) → ((x : A) → leaves_of b (go x) ≡ false) → leaves_of b (unless_raised taken rest go) ≡ false
+unless_quiet : {A : Type 0} (b : CompiledProgram) (taken : Result A (Tree ℕ)) (rest : Items ℕ) (go : A → Activation ℕ) → ((x : A) → leaves_of b (go x) ≡ false) → leaves_of b (unless_raised taken rest go) ≡ false
 unless_quiet b (Ok x) rest go h = h x
 unless_quiet b (Err ball) rest go h = refl
 
-module _ (b : Library) (old : Path) (a : Active) where
+module _ (b : CompiledProgram) (old : Path) (a : Active) where
   abbrev after : Items ℕ
   after = items_here b old a.rest.f a.rest.pc
 
@@ -108,11 +108,11 @@ module _ (b : Library) (old : Path) (a : Active) where
       catch_quiet ball e = ap (λ taken. leaves_of b (catch_or taken)) (subst (IsCalled (state_of p) (taken_at b old a term)) e is).1
 
 -- a path on which places alone were added before
-pub leaves_grown : (b : Library) (old p : Path) (a : Active) (ready : IsReady b old a) (g : Grew old p) (new : Path) → Leaves b p new (called b p a.node (goal_items b p a)) → Leaves b old new (called b old a.node (goal_items b old a))
+pub leaves_grown : (b : CompiledProgram) (old p : Path) (a : Active) (ready : IsReady b old a) (g : Grew old p) (new : Path) → Leaves b p new (called b p a.node (goal_items b p a)) → Leaves b old new (called b old a.node (goal_items b old a))
 leaves_grown b old p a ready g new h left =
     ap (λ cs. nat_lt (length cs.items) (length new.choices.items)) (sym (grew_records old p g)) ∙ h left ∙ ap (leaves_untried b) (grown_called b old p a ready g left)
 
-module _ (b : Library) (old : Path) (a : Active) (new : Path) where
+module _ (b : CompiledProgram) (old : Path) (a : Active) (new : Path) where
   -- a ball is thrown
   pub raised_leaves : (t : Tree ℕ) → activation b old a ≡ raised t (items_here b old a.rest.f a.rest.pc) → has_more old new ≡ false → Leaves b old new (called b old a.node (goal_items b old a))
   raised_leaves t act none = leaves_act b old new a (raised t (items_here b old a.rest.f a.rest.pc)) false act refl none

@@ -24,28 +24,28 @@ use Rattle.builtin_model.proofs.ValueLaw.{value-numbers}
 use Rattle.pl_builtin_ends.specs.declared.done.Done.{Done}
 use Rattle.pl_builtin_ends.specs.declared.done.Done.TheVariants as D
 use Rattle.pl_builtin_ends.specs.Meets.{Meets, Fails as Failing, fault_of}
-use Rattle.search_theory.specs.Search.{Call}
+use Rattle.solver_model.specs.Search.{Call}
 use Rattle.goal_model.specs.Bodies.{is_named}
 use Rattle.goal_model.specs.Rows.{Row, if_then, in_module, from_context, calling, plain, row_of, builtin_or_user, other_row, either_row}
 use Rattle.goal_code.specs.declared.instruction.Instruction.{Instruction}
 use Rattle.goal_code.specs.declared.instruction.Instruction.TheVariants.{Goal}
 use Rattle.goal_code.specs.Runs.{goal_of, next_of}
-use Rattle.goal_frames.specs.declared.frames.Setting.{Setting}
-use Rattle.goal_frames.specs.Frames.{IsLinked}
-use Rattle.goal_terms.specs.declared.constructs.Constructs.{Constructs}
-use Rattle.goal_terms.specs.declared.kind.Kind.TheVariants as K
-use Rattle.goal_terms.specs.Constructs.{AreConstructs}
-use Rattle.goal_terms.specs.Kinds.{AllAre}
-use Rattle.goal_targets.specs.declared.target.Target.{Target}
-use Rattle.goal_targets.specs.declared.target.Target.TheVariants as T
-use Rattle.goal_targets.specs.Targets.{IsTarget, target_at, home_of}
-use Rattle.goal_records.specs.declared.library.Library.{Library}
-use Rattle.goal_records.specs.declared.path.Path.{Path}
-use Rattle.goal_records.specs.Denotation.{naming, bodies, state_of, items_here}
-use Rattle.goal_records.specs.Well.{IsLibrary, IsWellWith}
+use Rattle.goal_state.specs.declared.frames.Setting.{Setting}
+use Rattle.goal_state.specs.Frames.{IsLinked}
+use Rattle.goal_constructs.specs.declared.constructs.Constructs.{Constructs}
+use Rattle.goal_constructs.specs.declared.kind.Kind.TheVariants as K
+use Rattle.goal_constructs.specs.Constructs.{AreConstructs}
+use Rattle.goal_constructs.specs.Kinds.{AllAre}
+use Rattle.clause_code.specs.declared.target.Target.{Target}
+use Rattle.clause_code.specs.declared.target.Target.TheVariants as T
+use Rattle.clause_code.specs.Targets.{IsTarget, target_at, home_of}
+use Rattle.goal_state.specs.declared.compiled.CompiledProgram.{CompiledProgram}
+use Rattle.goal_state.specs.declared.path.Path.{Path}
+use Rattle.goal_state.specs.Denotation.{naming, bodies, state_of, items_here}
+use Rattle.goal_state.specs.Well.{IsCompiled, IsWellWith}
 use Rattle.goal_moves.specs.declared.going.Going.TheVariants.{On, Fails}
-use Rattle.goal_moves.specs.declared.values.ValueGoal.{ValueGoal}
-use Rattle.goal_moves.specs.declared.values.ValueGoal.TheVariants as V
+use Rattle.goal_moves.specs.declared.code_values.ValueGoal.{ValueGoal}
+use Rattle.goal_moves.specs.declared.code_values.ValueGoal.TheVariants as V
 use Rattle.goal_moves.specs.Moves.{called, IsCode, Activated}
 use Rattle.goal_moves.specs.Values.{IsPair, DoesBy, IsValueGoal, value_deed}
 use Rattle.goal_moves.specs.Untried.{Leaves}
@@ -162,7 +162,7 @@ fails_else s t base ws goal D.No h not = h
 fails_else s t base ws goal (D.Raise r) h not = absurd (raise_not s base ws goal (fault_of s r) h.1)
 fails_else s t base ws goal (D.Halt z) h not = absurd (halt_not s base ws goal z h.1)
 
-module _ (b : Library) (p : Path) (c : Instruction) (st : Setting) (code : IsCode b p c st) (library : IsLibrary b) where
+module _ (b : CompiledProgram) (p : Path) (c : Instruction) (st : Setting) (code : IsCode b p c st) (compiled : IsCompiled b) where
   abbrev words : List CodeWord
   words = (bodies b st.clause).words
 
@@ -174,14 +174,14 @@ module _ (b : Library) (p : Path) (c : Instruction) (st : Setting) (code : IsCod
   is_value_goal t number k goal whole kept is row h =
       let word : Tree ℕ = code_tree words (goal_of c) in
       let has : IsTarget b.constructs b.tables.rows (home_of b.tables st.clause) (root word) (T.Plain number) =
-      subst (IsTarget b.constructs b.tables.rows (home_of b.tables st.clause) (root word)) (sym kept ∙ is) (kept_target b p c st code library whole) in
+      subst (IsTarget b.constructs b.tables.rows (home_of b.tables st.clause) (root word)) (sym kept ∙ is) (kept_target b p c st code compiled whole) in
       let same : root word ≡ View.Comp (record { 0 = h.name }) 2 = sym (root_stands (bound (state_of p)) st.base word has.0) ∙ ap root h.tree in
       record {
         row = k;
         does = h;
         is =
             ap (row_of (naming b)) h.tree
-            ∙ plain_row b.constructs (naming b) h.name number k h.left h.right library.constructs (subst (λ r. AllAre b.constructs r (K.Plain number)) same has.1) row;
+            ∙ plain_row b.constructs (naming b) h.name number k h.left h.right compiled.constructs (subst (λ r. AllAre b.constructs r (K.Plain number)) same has.1) row;
       }
 
   module _ (node : ℕ) (linked : IsLinked p.frames) (well : IsWellWith b p (reverse p.choices.items) node) (deep : p.depth ≡ node + 1) (goal : ValueGoal) (v : IsValueGoal b p c st goal)
@@ -192,7 +192,7 @@ module _ (b : Library) (p : Path) (c : Instruction) (st : Setting) (code : IsCod
     stands : Call (first_goal b p c st code) ∷ items_here b p f pc ≡ items_here b p p.f p.pc
     stands =
         ap (λ l. Call (first_goal b p c st code) ∷ l) (after ∙ ap (items_here b p p.f) next_is)
-        ∙ sym (first_items b p c st code library linked)
+        ∙ sym (first_items b p c st code compiled linked)
 
     silent : text ≡ text ++ output (naming b) v.row (v.does.left ∷ v.does.right ∷ [])
     silent = sym (append-nil text) ∙ ap (λ l. text ++ l) (sym v.does.silent)

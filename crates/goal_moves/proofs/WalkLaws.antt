@@ -2,18 +2,18 @@
 use Rattle.std.proofs.Common.{◌≡◌, ℕ, ◌+◌, ◌*◌, List, ◌∷◌, refl, sym, ap, ◌∙◌, subst, arith, length, reverse, map}
 use Rattle.std.specs.Prelude.{nat_eq}
 use Rattle.std.proofs.lemmas.List.{length-map, length-reverse}
-use Rattle.search_theory.specs.Search.{Cut, At, Language, FrameOf}
-use Rattle.search_theory.specs.Frames.{below}
-use Rattle.search_theory.specs.Configurations.{Configuration, Sane, Turns, Ungathered, value_of, weight, untried_in}
-use Rattle.search_theory.proofs.TurnLaws.{turns_then, turns_same, turn_cut}
+use Rattle.solver_model.specs.Search.{Cut, At, Language, FrameOf}
+use Rattle.solver_model.specs.Frames.{below}
+use Rattle.solver_model.specs.Configurations.{Configuration, Sane, Turns, Ungathered, value_of, weight, untried_in}
+use Rattle.solver_model.proofs.TurnLaws.{turns_then, turns_same, turn_cut}
 use Rattle.goal_model.specs.Table.{Items}
 use Rattle.goal_model.proofs.GuardProofs.{table_ok}
 use Rattle.pl_store.specs.Runs.{program_of}
-use Rattle.goal_records.specs.declared.library.Library.{Library}
-use Rattle.goal_records.specs.declared.path.Path.{Path}
-use Rattle.goal_records.specs.Denotation.{linked, naming, language_of, answers_of, state_of, items_here, world_here, frames_by, frames_on, point_here, search_at}
-use Rattle.goal_records.specs.Well.{IsWell, IsWellWith, TemplateFits, Stand as Standing, collects, mark_of}
-use Rattle.goal_records.specs.Steps.{kept, template_kept, answers_kept}
+use Rattle.goal_state.specs.declared.compiled.CompiledProgram.{CompiledProgram}
+use Rattle.goal_state.specs.declared.path.Path.{Path}
+use Rattle.goal_state.specs.Denotation.{linked, naming, language_of, answers_of, state_of, items_here, world_here, frames_by, frames_on, point_here, search_at}
+use Rattle.goal_state.specs.Well.{IsWell, IsWellWith, TemplateFits, Stand as Standing, collects, mark_of}
+use Rattle.goal_state.specs.Steps.{kept, template_kept, answers_kept}
 use Rattle.goal_moves.specs.Walking.{Walked}
 use Rattle.goal_moves.proofs.CutLaws.{kept_frames, kept_template, kept_stand, kept_fits, kept_collects}
 
@@ -29,13 +29,13 @@ turns_when L x y z t e left weigh = record {
 -- ---- paths that stand elsewhere
 
 -- what a search has on a path where these items stand first
-abbrev with_items : (b : Library) → Path → Items ℕ → ℕ → Configuration (language_of b)
+abbrev with_items : (b : CompiledProgram) → Path → Items ℕ → ℕ → Configuration (language_of b)
 with_items b p items left = search_at b p (At (record { depth = p.depth; items = items; world = world_here b p })) left
 
-pub elsewhere_well : (b : Library) (p : Path) (f pc : ℕ) → IsWell b p → IsWell b (record p { f = f; pc = pc })
+pub elsewhere_well : (b : CompiledProgram) (p : Path) (f pc : ℕ) → IsWell b p → IsWell b (record p { f = f; pc = pc })
 elsewhere_well b p f pc w = record { store = w.store; frames = w.frames; template = w.template; wide = w.wide; records = w.records; gathered = w.gathered }
 
-pub walked_same : (b : Library) (p : Path) (f pc : ℕ) → IsWell b p → items_here b p p.f p.pc ≡ items_here b p f pc → Walked b p (record p { f = f; pc = pc })
+pub walked_same : (b : CompiledProgram) (p : Path) (f pc : ℕ) → IsWell b p → items_here b p p.f p.pc ≡ items_here b p f pc → Walked b p (record p { f = f; pc = pc })
 walked_same b p f pc w e = record {
   well = elsewhere_well b p f pc w;
   depth = refl;
@@ -43,7 +43,7 @@ walked_same b p f pc w e = record {
   goes = λ left. turns_same (language_of b) (with_items b p (items_here b p p.f p.pc) left) (with_items b p (items_here b p f pc) left) (ap (λ i. with_items b p i left) e);
 }
 
-pub walked_then : (b : Library) (p m q : Path) → Walked b p m → Walked b m q → Walked b p q
+pub walked_then : (b : CompiledProgram) (p m q : Path) → Walked b p m → Walked b m q → Walked b p q
 walked_then b p m q g h = record {
   well = h.well;
   depth = h.depth ∙ g.depth;
@@ -63,7 +63,7 @@ pub record IsCut (p m : Path) (d : ℕ) : Type 0 where
   pub gathered : answers_of m ≡ answers_kept d (reverse p.choices.items) (answers_of p)
   pub others : m ≡ record p { choices = m.choices; template = m.template; gathered = m.gathered }
 
-module _ (b : Library) (p m : Path) (d f pc : ℕ) (well : IsWell b p) (h : IsCut p m d) where
+module _ (b : CompiledProgram) (p m : Path) (d f pc : ℕ) (well : IsWell b p) (h : IsCut p m d) where
   cut_frames : frames_on b m (reverse m.choices.items) ≡ below d (frames_on b p (reverse p.choices.items))
   cut_frames =
       ap (λ r. frames_by b r.width (state_of r) r.frames (reverse m.choices.items) m.template (answers_of m)) h.others

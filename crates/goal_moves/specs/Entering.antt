@@ -2,11 +2,11 @@
 use Rattle.std.specs.Prelude.{ℕ, List, [], ◌∷◌}
 use Rattle.pl_unify.specs.declared.word.Ref.{Ref}
 use Rattle.pl_unify.specs.State.{State, tree_at}
-use Rattle.search_theory.specs.Search.{Item, Call}
+use Rattle.solver_model.specs.Search.{Item, Call}
 use Rattle.goal_model.specs.Bodies.{Goal}
 use Rattle.goal_model.specs.Table.{Items}
-use Rattle.goal_frames.specs.declared.frames.Setting.{Setting}
-use Rattle.goal_frames.specs.Frames.{env_of}
+use Rattle.goal_state.specs.declared.frames.Setting.{Setting}
+use Rattle.goal_state.specs.Frames.{env_of}
 
 -- the call of the goal at a place
 abbrev pub call_at : State → Setting → Ref → Item (Goal ℕ)

@@ -2,30 +2,30 @@
 use Rattle.std.specs.Prelude.{◌≡◌, ℕ, suc, ◌+◌, ◌≤◌, List, [], ◌∷◌, ◌++◌, length, map, reverse, Some, true}
 use Rattle.pl_terms.specs.Trees.{Tree}
 use Rattle.pl_unify.specs.State.{State, tree_at, IsRef}
-use Rattle.search_theory.specs.Search.{Call, At, Over, Failed, Thrown, Halted, Tries, PointOf, FrameOf}
-use Rattle.search_theory.specs.Configurations.{Configuration, Turns, Tells}
+use Rattle.solver_model.specs.Search.{Call, At, Over, Failed, Thrown, Halted, Tries, PointOf, FrameOf}
+use Rattle.solver_model.specs.Configurations.{Configuration, Turns, Tells}
 use Rattle.goal_model.specs.Table.{Items, resolves, shown}
 use Rattle.goal_code.specs.Runs.{instruction_at, is_goal}
 use Rattle.goal_code.specs.declared.instruction.Instruction.{Instruction}
 use Rattle.pl_store.specs.Runs.{program_of}
-use Rattle.goal_frames.specs.Frames.{env_of, place_get}
-use Rattle.goal_frames.specs.declared.frames.Setting.{Setting}
-use Rattle.goal_frames.specs.declared.frames.Part.{Part}
-use Rattle.goal_frames.specs.declared.frames.Part.TheVariants as P
-use Rattle.goal_records.specs.declared.choice.Choice.{Choice}
-use Rattle.goal_records.specs.declared.library.Library.{Library}
-use Rattle.goal_records.specs.declared.path.Path.{Path}
-use Rattle.goal_records.specs.Denotation.{linked, language_of, bodies, clauses_on, state_of, items_here, world_here, point_here, frames_on, search_at}
-use Rattle.goal_records.specs.Well.{IsWell, IsWellWith, IsGoalOf}
+use Rattle.goal_state.specs.Frames.{env_of, place_get}
+use Rattle.goal_state.specs.declared.frames.Setting.{Setting}
+use Rattle.goal_state.specs.declared.frames.Part.{Part}
+use Rattle.goal_state.specs.declared.frames.Part.TheVariants as P
+use Rattle.goal_state.specs.declared.choice.Choice.{Choice}
+use Rattle.goal_state.specs.declared.compiled.CompiledProgram.{CompiledProgram}
+use Rattle.goal_state.specs.declared.path.Path.{Path}
+use Rattle.goal_state.specs.Denotation.{linked, language_of, bodies, clauses_on, state_of, items_here, world_here, point_here, frames_on, search_at}
+use Rattle.goal_state.specs.Well.{IsWell, IsWellWith, IsGoalOf}
 use Rattle.goal_moves.specs.declared.active.Rest.{Rest}
 use Rattle.goal_moves.specs.declared.active.Active.{Active}
 use Rattle.goal_moves.specs.declared.going.Going.{Going}
 use Rattle.goal_moves.specs.declared.going.Going.TheVariants.{On, Fails, Halts, Uncaught}
-use Rattle.goal_moves.specs.declared.user.Attempt.{Attempt}
+use Rattle.goal_moves.specs.declared.procedures.Attempt.{Attempt}
 
 -- ---- configurations
 
-module _ (b : Library) where
+module _ (b : CompiledProgram) where
   -- a search on a path in front of records, the newest first, with so many steps left
   abbrev pub search_with : Path → PointOf (language_of b) → List (FrameOf (language_of b)) → ℕ → Configuration (language_of b)
   search_with p point frames left = record { point = point; left = left; clauses = (program_of (linked b)).clauses; frames = frames }
@@ -74,7 +74,7 @@ module _ (b : Library) where
 -- ---- what is asked of a path, and what is promised
 
 -- a path on which a goal is being activated
-pub record IsReady (b : Library) (p : Path) (a : Active) : Type 0 where
+pub record IsReady (b : CompiledProgram) (p : Path) (a : Active) : Type 0 where
   pub well : IsWellWith b p (reverse p.choices.items) a.node
   pub depth : p.depth ≡ a.node + 1
   pub goal : IsRef (state_of p) a.goal
@@ -82,7 +82,7 @@ pub record IsReady (b : Library) (p : Path) (a : Active) : Type 0 where
   pub base : a.setting.base ≤ (state_of p).next
 
 -- a path on which a clause is tried for a goal
-pub record IsTrying (b : Library) (p : Path) (a : Attempt) (clause : ℕ) : Type 0 where
+pub record IsTrying (b : CompiledProgram) (p : Path) (a : Attempt) (clause : ℕ) : Type 0 where
   pub well : IsWellWith b p (reverse p.choices.items) a.setting.depth
   pub depth : p.depth ≡ a.setting.depth + 1
   pub goal : IsRef (state_of p) a.goal
@@ -91,14 +91,14 @@ pub record IsTrying (b : Library) (p : Path) (a : Attempt) (clause : ℕ) : Type
   pub fits : IsGoalOf (linked b) clause (tree_at (state_of p) a.goal)
 
 -- a move from a configuration leads to where the path stands
-pub record Moved (b : Library) (old new : Path) (x : ℕ → Configuration (language_of b)) (g : Going) : Type 0 where
+pub record Moved (b : CompiledProgram) (old new : Path) (x : ℕ → Configuration (language_of b)) (g : Going) : Type 0 where
   pub well : IsWell b new
   pub low : new.depth ≤ old.depth
   pub width : new.width ≡ old.width
   pub goes : Leads b x new g
 
 -- frames were put before what is to be run from a place on: what is to be run from another place now are these items
-pub record Entered (b : Library) (old new : Path) (rest at : Rest) (items : Items ℕ) : Type 0 where
+pub record Entered (b : CompiledProgram) (old new : Path) (rest at : Rest) (items : Items ℕ) : Type 0 where
   pub others : new ≡ record old { frames = new.frames; f = new.f; pc = new.pc }
   pub within : rest.f ≤ length new.frames
   pub at_within : at.f ≤ length new.frames
@@ -117,7 +117,7 @@ IsOne s P.Fail = Unit {0}
 IsOne s part = ⊥
 
 -- an answer of a nested search
-abbrev pub answering : (b : Library) → Path → ℕ → Configuration (language_of b)
+abbrev pub answering : (b : CompiledProgram) → Path → ℕ → Configuration (language_of b)
 answering b p left = search_at b p (At (record { depth = p.depth; items = []; world = world_here b p })) left
 
 -- where a path stands
@@ -125,7 +125,7 @@ abbrev pub here : Path → Rest
 here p = record { f = p.f; pc = p.pc }
 
 -- the goal of an instruction stands first in a frame that runs the body of a clause
-pub record IsCode (b : Library) (p : Path) (c : Instruction) (st : Setting) : Type 0 where
+pub record IsCode (b : CompiledProgram) (p : Path) (c : Instruction) (st : Setting) : Type 0 where
   pub parent : ℕ
   pub ppc : ℕ
   pub frame : place_get (reverse p.frames) p.f ≡ Some (record { parent = parent; ppc = ppc; part = P.Body; setting = st })
@@ -133,7 +133,7 @@ pub record IsCode (b : Library) (p : Path) (c : Instruction) (st : Setting) : Ty
   pub goal : is_goal c ≡ true
 
 -- a goal was activated, and these bytes were written
-pub record Activated (b : Library) (old new : Path) (x : ℕ → Configuration (language_of b)) (before after : List ℕ) (g : Going) : Type 0 where
+pub record Activated (b : CompiledProgram) (old new : Path) (x : ℕ → Configuration (language_of b)) (before after : List ℕ) (g : Going) : Type 0 where
   pub bytes : List ℕ
   pub text : after ≡ before ++ bytes
   pub well : IsWell b new

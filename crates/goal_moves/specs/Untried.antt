@@ -2,18 +2,18 @@
 use Rattle.std.specs.Prelude.{◌≡◌, ℕ, ◌≤◌, suc, nat_eq, nat_lt, Bool, false, if◌then◌else◌, is_some, List, [], ◌∷◌, length, map}
 use Rattle.std.specs.List.{list_any}
 use Rattle.pl_unify.specs.State.{tree_at}
-use Rattle.search_theory.specs.Search.{Call, At, Over, Tries, Catches, Collects, Ends, Opens, PointOf}
-use Rattle.search_theory.specs.Configurations.{Configuration}
+use Rattle.solver_model.specs.Search.{Call, At, Over, Tries, Catches, Collects, Ends, Opens, PointOf}
+use Rattle.solver_model.specs.Configurations.{Configuration}
 use Rattle.builtin_model.specs.Naming.{Naming}
 use Rattle.goal_model.specs.Choices.{is_untried, is_open}
 use Rattle.goal_model.specs.Program.{Clauses}
 use Rattle.goal_model.specs.Table.{Alternative, resolves, attempt, Items, World, Moved as Activation}
 use Rattle.pl_store.specs.Runs.{program_of}
-use Rattle.goal_frames.specs.Frames.{env_of}
-use Rattle.goal_records.specs.declared.library.Library.{Library}
-use Rattle.goal_records.specs.declared.path.Path.{Path}
-use Rattle.goal_records.specs.Denotation.{linked, naming, language_of, clauses_on, state_of, items_here, world_here}
-use Rattle.goal_moves.specs.declared.user.Attempt.{Attempt}
+use Rattle.goal_state.specs.Frames.{env_of}
+use Rattle.goal_state.specs.declared.compiled.CompiledProgram.{CompiledProgram}
+use Rattle.goal_state.specs.declared.path.Path.{Path}
+use Rattle.goal_state.specs.Denotation.{linked, naming, language_of, clauses_on, state_of, items_here, world_here}
+use Rattle.goal_moves.specs.declared.procedures.Attempt.{Attempt}
 
 -- the alternatives behind the first one that can be taken
 abbrev pub behind_taken : Naming ℕ → Clauses ℕ → List (Alternative ℕ) → List (Alternative ℕ)
@@ -34,7 +34,7 @@ node_leaves n c (Opens events (Over e) (Catches depth r)) = false
 node_leaves n c (Opens events (Over e) (Collects depth answers g)) = false
 
 -- whether the activation of the goal that stands first leaves something untried
-module _ (b : Library) where
+module _ (b : CompiledProgram) where
   abbrev pub items_leave : ℕ → Items ℕ → World ℕ → Clauses ℕ → Bool
   items_leave depth (Call g ∷ rest) w c = node_leaves (naming b) c ((language_of b).activate depth g rest w c)
   items_leave depth _ w c = false
@@ -51,11 +51,11 @@ abbrev pub has_more : Path → Path → Bool
 has_more old new = nat_lt (length old.choices.items) (length new.choices.items)
 
 -- there are more records than before exactly where the goal that stands first in a configuration leaves something untried
-abbrev pub Leaves : (b : Library) → Path → Path → (ℕ → Configuration (language_of b)) → Type 0
+abbrev pub Leaves : (b : CompiledProgram) → Path → Path → (ℕ → Configuration (language_of b)) → Type 0
 Leaves b old new x = (left : ℕ) → has_more old new ≡ leaves_untried b (x left)
 
 -- the same of the alternatives of clauses that are tried for a goal, from one on
-abbrev pub clause_alternatives : (b : Library) → Path → Attempt → ℕ → List (Alternative ℕ)
+abbrev pub clause_alternatives : (b : CompiledProgram) → Path → Attempt → ℕ → List (Alternative ℕ)
 clause_alternatives b p a clause = map (resolves (record {
   depth = a.setting.depth;
   goal = tree_at (state_of p) a.goal;
@@ -64,7 +64,7 @@ clause_alternatives b p a clause = map (resolves (record {
   world = world_here b p;
 })) (clauses_on (linked b) clause)
 
-abbrev pub TriesLeave : Library → Path → Path → Attempt → ℕ → Type 0
+abbrev pub TriesLeave : CompiledProgram → Path → Path → Attempt → ℕ → Type 0
 TriesLeave b old new a clause =
     has_more old new ≡ leaves_one (naming b) (program_of (linked b)).clauses (clause_alternatives b old a clause)
 

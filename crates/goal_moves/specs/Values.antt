@@ -11,12 +11,12 @@ use Rattle.builtin_model.specs.declared.row.Row.{Row as Builtin}
 use Rattle.goal_model.specs.Rows.{plain, row_of}
 use Rattle.goal_code.specs.Runs.{goal_of}
 use Rattle.goal_code.specs.declared.instruction.Instruction.{Instruction}
-use Rattle.goal_frames.specs.declared.frames.Setting.{Setting}
-use Rattle.goal_records.specs.declared.library.Library.{Library}
-use Rattle.goal_records.specs.declared.path.Path.{Path}
-use Rattle.goal_records.specs.Denotation.{naming, bodies, state_of}
-use Rattle.goal_moves.specs.declared.values.ValueGoal.{ValueGoal}
-use Rattle.goal_moves.specs.declared.values.ValueGoal.TheVariants as V
+use Rattle.goal_state.specs.declared.frames.Setting.{Setting}
+use Rattle.goal_state.specs.declared.compiled.CompiledProgram.{CompiledProgram}
+use Rattle.goal_state.specs.declared.path.Path.{Path}
+use Rattle.goal_state.specs.Denotation.{naming, bodies, state_of}
+use Rattle.goal_moves.specs.declared.code_values.ValueGoal.{ValueGoal}
+use Rattle.goal_moves.specs.declared.code_values.ValueGoal.TheVariants as V
 
 -- the arguments of the compound at a place of code stand from another on, and they are two
 pub record IsPair (ws : List CodeWord) (p left : ℕ) : Type 0 where
@@ -45,7 +45,7 @@ pub record DoesBy (names : List (List ℕ)) (s : State) (base : ℕ) (ws : List 
   pub place : HasPlace ws goal
 
 -- the goal of an instruction is that of a row which does this
-pub record IsValueGoal (b : Library) (p : Path) (c : Instruction) (st : Setting) (goal : ValueGoal) : Type 0 where
+pub record IsValueGoal (b : CompiledProgram) (p : Path) (c : Instruction) (st : Setting) (goal : ValueGoal) : Type 0 where
   pub row : Builtin
   pub does : DoesBy b.names (state_of p) st.base (bodies b st.clause).words (goal_of c) row goal
   pub is : row_of (naming b) (code_tree_in (state_of p) st.base (bodies b st.clause).words (goal_of c)) ≡ plain row (does.left ∷ does.right ∷ [])

@@ -3,13 +3,13 @@ ghost use Rattle.std.specs.Prelude.{◌≡◌, ◌+◌, ◌<◌, ◌≤◌, ◌�
 ghost use Rattle.pl_terms.specs.Trees.{Tree};
 ghost use Rattle.pl_terms.specs.Occurrence.{canon};
 ghost use Rattle.pl_unify.specs.State.{tree_at, IsRef};
-ghost use Rattle.search_theory.specs.Search.{Call, Cut, Pop, Fail, Over, Failed, pops};
+ghost use Rattle.solver_model.specs.Search.{Call, Cut, Pop, Fail, Over, Failed, pops};
 ghost use Rattle.goal_model.specs.Bodies.{flat};
 ghost use Rattle.goal_code.specs.Continuations.{items_from};
-ghost use Rattle.goal_frames.specs.Frames.{env_of, part_item, running};
-ghost use Rattle.goal_terms.specs.Goals.{IsRow};
-ghost use Rattle.goal_records.specs.Denotation.{linked, naming, bodies, state_of, items_here, search_at, answers_of};
-ghost use Rattle.goal_records.specs.Well.{IsLibrary, IsWell, IsWellWith, floor_of};
+ghost use Rattle.goal_state.specs.Frames.{env_of, part_item, running};
+ghost use Rattle.goal_constructs.specs.Goals.{IsRow};
+ghost use Rattle.goal_state.specs.Denotation.{linked, naming, bodies, state_of, items_here, search_at, answers_of};
+ghost use Rattle.goal_state.specs.Well.{IsCompiled, IsWell, IsWellWith, floor_of};
 ghost use Rattle.pl_ops.specs.Standard.{standard};
 ghost use Rattle.pl_ops.specs.Tables.{operator};
 ghost use Rattle.goal_code.specs.Runs.{goal_of, next_of};
@@ -19,20 +19,19 @@ ghost use Rattle.goal_moves.specs.Moves.{goal_items, called, thrown, tried, resu
 ghost use Rattle.goal_moves.specs.Untried.{Leaves};
 
 use crate::active::{Active, Rest};
-use crate::branching::{cut_from_code, either_from_code, if_from_code};
+use crate::builtins::do_row;
+use crate::code_control::{cut_from_code, either_from_code, if_from_code};
+use crate::code_goals::goal_from_code;
 use crate::collecting::collecting;
-use crate::control::{
+use crate::going::Going;
+use crate::procedures::call_procedure;
+use crate::term_control::{
     calling, catching, commit, either, from_context, if_then, if_then_else, in_module, negation,
     once, repeat, throwing,
 };
-use crate::goals::goal_from_code;
-use crate::going::Going;
-use crate::plain::do_row;
-use crate::user::call_procedure;
 use goal_code::Instruction;
-use goal_frames::Setting;
-use goal_records::{Library, Path};
-use goal_terms::GoalRow;
+use goal_constructs::GoalRow;
+use goal_state::{CompiledProgram, Path, Setting};
 use pl_atoms::{Bytes, NoMemory};
 use pl_ops::OpTable;
 use pl_store::ClauseId;
@@ -42,50 +41,50 @@ use std::alloc::Global;
 /// Activates a goal that is a term. What it writes is put onto `text`.
 pub fn activate_term(
     alloc: Global,
-    library: &mut Library,
+    compiled: &mut CompiledProgram,
     table: &OpTable,
     path: &mut Path,
     active: Active,
     text: &mut Bytes,
 ) -> Result<Going, NoMemory>
-    requires library { IsLibrary library.old }
+    requires compiled { IsCompiled compiled.old }
     requires table { operator table.now ≡ operator standard }
-    requires ready { IsReady library.old path.old active }
-    ensures library { OnOk result (library.new ≡ library.old) }
-    ensures activated { IfOk result (λ g. Activated library.old path.old path.new (called library.old path.old active.node (goal_items library.old path.old active)) text.old text.new g) }
-    ensures untried { IfOk result (λ g. Leaves library.old path.old path.new (called library.old path.old active.node (goal_items library.old path.old active))) }
+    requires ready { IsReady compiled.old path.old active }
+    ensures compiled { OnOk result (compiled.new ≡ compiled.old) }
+    ensures activated { IfOk result (λ g. Activated compiled.old path.old path.new (called compiled.old path.old active.node (goal_items compiled.old path.old active)) text.old text.new g) }
+    ensures untried { IfOk result (λ g. Leaves compiled.old path.old path.new (called compiled.old path.old active.node (goal_items compiled.old path.old active))) }
 {
-    match library.constructs.row(&path.store, active.goal) {
-        GoalRow::Commit => Ok(commit(library, path, active)),
+    match compiled.constructs.row(&path.store, active.goal) {
+        GoalRow::Commit => Ok(commit(compiled, path, active)),
         GoalRow::IfThenElse(condition, then, otherwise) => {
-            if_then_else(alloc, library, path, active, condition, then, otherwise)
+            if_then_else(alloc, compiled, path, active, condition, then, otherwise)
         }
-        GoalRow::IfThen(condition, then) => if_then(alloc, library, path, active, condition, then),
-        GoalRow::Either(left, right) => either(alloc, library, path, active, left, right),
-        GoalRow::Negation(goal) => negation(alloc, library, path, active, goal),
-        GoalRow::Once(goal) => once(alloc, library, path, active, goal),
-        GoalRow::Calling => calling(alloc, library, path, active),
-        GoalRow::InModule(home, goal) => in_module(alloc, library, path, active, home, goal),
+        GoalRow::IfThen(condition, then) => if_then(alloc, compiled, path, active, condition, then),
+        GoalRow::Either(left, right) => either(alloc, compiled, path, active, left, right),
+        GoalRow::Negation(goal) => negation(alloc, compiled, path, active, goal),
+        GoalRow::Once(goal) => once(alloc, compiled, path, active, goal),
+        GoalRow::Calling => calling(alloc, compiled, path, active),
+        GoalRow::InModule(home, goal) => in_module(alloc, compiled, path, active, home, goal),
         GoalRow::FromContext(goal, context) => {
-            from_context(alloc, library, path, active, goal, context)
+            from_context(alloc, compiled, path, active, goal, context)
         }
-        GoalRow::Repeat => repeat(library, path, active),
-        GoalRow::Throwing(ball) => throwing(alloc, library, path, active, ball),
+        GoalRow::Repeat => repeat(compiled, path, active),
+        GoalRow::Throwing(ball) => throwing(alloc, compiled, path, active, ball),
         GoalRow::Catching(goal, catcher, recovery) => {
-            catching(alloc, library, path, active, goal, catcher, recovery)
+            catching(alloc, compiled, path, active, goal, catcher, recovery)
         }
         GoalRow::Collecting(template, goal, list) => {
-            collecting(alloc, library, path, active, template, goal, list)
+            collecting(alloc, compiled, path, active, template, goal, list)
         }
-        GoalRow::Plain(row) => do_row(alloc, library, table, path, active, row, text),
-        GoalRow::User => call_procedure(alloc, library, path, active),
+        GoalRow::Plain(row) => do_row(alloc, compiled, table, path, active, row, text),
+        GoalRow::User => call_procedure(alloc, compiled, path, active),
     }
 }
 
 /// Activates the goal of an instruction, which stands first on the path. What it writes is put onto `text`.
 pub fn activate_code(
     alloc: Global,
-    library: &mut Library,
+    compiled: &mut CompiledProgram,
     table: &OpTable,
     path: &mut Path,
     instruction: Instruction,
@@ -93,19 +92,19 @@ pub fn activate_code(
     node: usize,
     text: &mut Bytes,
 ) -> Result<Going, NoMemory>
-    requires library { IsLibrary library.old }
+    requires compiled { IsCompiled compiled.old }
     requires table { operator table.now ≡ operator standard }
-    requires well { IsWellWith library.old path.old (reverse path.old.choices.items) node }
+    requires well { IsWellWith compiled.old path.old (reverse path.old.choices.items) node }
     requires depth { path.old.depth ≡ node + 1 }
-    requires code { IsCode library.old path.old instruction setting }
-    ensures library { OnOk result (library.new ≡ library.old) }
-    ensures activated { IfOk result (λ g. Activated library.old path.old path.new (called library.old path.old node (items_here library.old path.old path.old.f path.old.pc)) text.old text.new g) }
-    ensures untried { IfOk result (λ g. Leaves library.old path.old path.new (called library.old path.old node (items_here library.old path.old path.old.f path.old.pc))) }
+    requires code { IsCode compiled.old path.old instruction setting }
+    ensures compiled { OnOk result (compiled.new ≡ compiled.old) }
+    ensures activated { IfOk result (λ g. Activated compiled.old path.old path.new (called compiled.old path.old node (items_here compiled.old path.old path.old.f path.old.pc)) text.old text.new g) }
+    ensures untried { IfOk result (λ g. Leaves compiled.old path.old path.new (called compiled.old path.old node (items_here compiled.old path.old path.old.f path.old.pc))) }
 {
     match instruction {
         Instruction::Goal { .. } => goal_from_code(
             alloc,
-            library,
+            compiled,
             table,
             path,
             instruction,
@@ -113,38 +112,38 @@ pub fn activate_code(
             node,
             text,
         ),
-        Instruction::Cut { next, .. } => Ok(cut_from_code(library, path, next, setting, node)),
+        Instruction::Cut { next, .. } => Ok(cut_from_code(compiled, path, next, setting, node)),
         Instruction::Either { left, right, .. } => {
-            either_from_code(library, path, left, right, setting, node)
+            either_from_code(compiled, path, left, right, setting, node)
         }
         Instruction::If {
             condition,
             otherwise,
             next,
             ..
-        } => if_from_code(library, path, condition, otherwise, next, setting, node),
+        } => if_from_code(compiled, path, condition, otherwise, next, setting, node),
         Instruction::EndIf { .. } => unreachable!(),
     }
 }
 
 /// Puts the goal of an instruction, which stands first on the path, into the store.
 pub(crate) fn goal_here(
-    library: &Library,
+    compiled: &CompiledProgram,
     path: &mut Path,
     instruction: Instruction,
     setting: Setting,
     node: usize,
 ) -> Result<Active, NoMemory>
-    requires library { IsLibrary library.now }
-    requires well { IsWellWith library.now path.old (reverse path.old.choices.items) node }
+    requires compiled { IsCompiled compiled.now }
+    requires well { IsWellWith compiled.now path.old (reverse path.old.choices.items) node }
     requires depth { path.old.depth ≡ node + 1 }
-    requires code { IsCode library.now path.old instruction setting }
-    ensures here { IfOk result (λ a. GoalHere library.now path.old path.new node a) }
-    ensures tree { IfOk result (λ a. tree_at (state_of path.new) a.goal ≡ code_tree_in (state_of path.old) setting.base (bodies library.now setting.clause).words (goal_of instruction)) }
+    requires code { IsCode compiled.now path.old instruction setting }
+    ensures here { IfOk result (λ a. GoalHere compiled.now path.old path.new node a) }
+    ensures tree { IfOk result (λ a. tree_at (state_of path.new) a.goal ≡ code_tree_in (state_of path.old) setting.base (bodies compiled.now setting.clause).words (goal_of instruction)) }
 {
     let _frame = path.frames.get(path.f);
     let (f, pc) = path.frames.after(path.f, next_of(instruction));
-    let goal = build_goal(library, path, instruction, setting)?;
+    let goal = build_goal(compiled, path, instruction, setting)?;
     let rest = Rest { f, pc };
     Ok(Active {
         goal,
@@ -157,19 +156,19 @@ pub(crate) fn goal_here(
 // Puts the term of an instruction of a clause into the store. The clause's variables were made when the clause was taken, so that
 // none is new.
 fn build_goal(
-    library: &Library,
+    compiled: &CompiledProgram,
     path: &mut Path,
     instruction: Instruction,
     setting: Setting,
 ) -> Result<Ref, NoMemory>
-    requires clause { setting.clause < length library.now.codes }
-    requires place { goal_of instruction < length (bodies library.now setting.clause).words }
+    requires clause { setting.clause < length compiled.now.codes }
+    requires place { goal_of instruction < length (bodies compiled.now setting.clause).words }
     requires base { setting.base ≤ (state_of path.old).next }
     ensures grew { OnOk result (Grew path.old path.new) }
     ensures place { IfOk result (λ at. IsRef (state_of path.new) at) }
-    ensures tree { IfOk result (λ at. tree_at (state_of path.new) at ≡ code_tree_in (state_of path.old) setting.base (bodies library.now setting.clause).words (goal_of instruction)) }
+    ensures tree { IfOk result (λ at. tree_at (state_of path.new) at ≡ code_tree_in (state_of path.old) setting.base (bodies compiled.now setting.clause).words (goal_of instruction)) }
 {
-    let body = &library.codes.get(ClauseId(setting.clause)).body;
+    let body = &compiled.codes.get(ClauseId(setting.clause)).body;
     let before = path.store.next_var();
     let goal = path
         .store

@@ -1,5 +1,5 @@
 //! Goals that are activated.
-use goal_frames::Setting;
+use goal_state::Setting;
 use pl_unify::Ref;
 
 /// What goes on after a goal: a frame, and the place in it.

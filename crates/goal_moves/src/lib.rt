@@ -4,17 +4,17 @@
 mod activation;
 mod active;
 mod backtracking;
-mod branching;
+mod builtins;
+mod code_control;
+mod code_goals;
+mod code_values;
 mod collecting;
-mod control;
 mod enter;
-mod goals;
 mod going;
-mod plain;
+mod procedures;
 mod raising;
 mod standing;
-mod user;
-mod values;
+mod term_control;
 
 pub use activation::{activate_code, activate_term};
 pub use active::{Active, Rest};

@@ -2,15 +2,15 @@
 ghost use Rattle.std.specs.Prelude.{◌≡◌, ◌+◌, ◌<◌, ◌≤◌, ◌∷◌, ℕ, length, reverse, true, false, IfOk, MatchBool};
 ghost use Rattle.pl_terms.specs.Occurrence.{canon};
 ghost use Rattle.pl_unify.specs.State.{State, tree_at, IsRef};
-ghost use Rattle.search_theory.specs.Search.{has, pops};
-ghost use Rattle.search_theory.specs.Configurations.{Falling};
+ghost use Rattle.solver_model.specs.Search.{has, pops};
+ghost use Rattle.solver_model.specs.Configurations.{Falling};
 ghost use Rattle.goal_model.specs.Table.{Items};
 ghost use Rattle.goal_code.specs.Continuations.{items_from};
-ghost use Rattle.goal_frames.specs.Frames.{running, place_get};
-ghost use Rattle.goal_terms.specs.Calling.{IsPlace};
-ghost use Rattle.goal_records.specs.Denotation.{language_of, bodies, state_of, items_here, setting_in};
-ghost use Rattle.goal_records.specs.Well.{IsLibrary, IsWell, IsWellWith, floor_of};
-ghost use Rattle.goal_records.specs.declared.choice.ChoiceKind.TheVariants as Kind;
+ghost use Rattle.goal_state.specs.Frames.{running, place_get};
+ghost use Rattle.goal_constructs.specs.Calling.{IsPlace};
+ghost use Rattle.goal_state.specs.Denotation.{language_of, bodies, state_of, items_here, setting_in};
+ghost use Rattle.goal_state.specs.Well.{IsCompiled, IsWell, IsWellWith, floor_of};
+ghost use Rattle.goal_state.specs.declared.choice.ChoiceKind.TheVariants as Kind;
 ghost use Rattle.goal_moves.specs.Moves.{thrown, Moved};
 ghost use Rattle.goal_moves.specs.Throwing.{exits_here, Leads, Wends, Hands, Recovers};
 ghost use Rattle.goal_moves.specs.Untried.{TakesOff};
@@ -22,9 +22,8 @@ use crate::enter::enter_goals;
 use crate::going::Going;
 use crate::standing::instruction;
 use goal_code::Instruction;
-use goal_frames::{Part, Setting};
-use goal_records::{Choice, ChoiceKind, Library, Path};
-use goal_terms::Called;
+use goal_constructs::Called;
+use goal_state::{Choice, ChoiceKind, CompiledProgram, Part, Path, Setting};
 use pl_atoms::{NameId, NoMemory};
 use pl_builtin_terms::numbered;
 use pl_terms::Term;
@@ -51,39 +50,39 @@ enum Way {
 /// Throws the term at a place of the store, where the rest would have followed the goal that throws it.
 pub fn raise(
     alloc: Global,
-    library: &Library,
+    compiled: &CompiledProgram,
     path: &mut Path,
     ball: Ref,
     rest: Rest,
 ) -> Result<Going, NoMemory>
-    requires library { IsLibrary library.now }
-    requires well { IsWell library.now path.old }
+    requires compiled { IsCompiled compiled.now }
+    requires well { IsWell compiled.now path.old }
     requires ball { IsRef (state_of path.old) ball }
-    ensures moved { IfOk result (λ g. Moved library.now path.old path.new (thrown library.now path.old (canon (tree_at (state_of path.old) ball)) (pops (items_here library.now path.old rest.f rest.pc))) g) }
+    ensures moved { IfOk result (λ g. Moved compiled.now path.old path.new (thrown compiled.now path.old (canon (tree_at (state_of path.old) ball)) (pops (items_here compiled.now path.old rest.f rest.pc))) g) }
     ensures fewer { IfOk result (λ g. TakesOff path.old path.new) }
 {
     let copy = path.store.copy_out(alloc, ball)?;
     let term = numbered(alloc, &copy)?;
-    throw(alloc, library, path, term, rest)
+    throw(alloc, compiled, path, term, rest)
 }
 
 // Hands a ball outward, record by record.
 fn throw(
     alloc: Global,
-    library: &Library,
+    compiled: &CompiledProgram,
     path: &mut Path,
     term: Term,
     rest: Rest,
 ) -> Result<Going, NoMemory>
-    requires library { IsLibrary library.now }
-    requires well { IsWell library.now path.old }
-    ensures moved { IfOk result (λ g. Moved library.now path.old path.new (thrown library.now path.old term (exits_here library.now path.old rest)) g) }
+    requires compiled { IsCompiled compiled.now }
+    requires well { IsWell compiled.now path.old }
+    ensures moved { IfOk result (λ g. Moved compiled.now path.old path.new (thrown compiled.now path.old term (exits_here compiled.now path.old rest)) g) }
     ensures fewer { IfOk result (λ g. TakesOff path.old path.new) }
 {
     let mut ball = term;
     let mut at = rest;
     while let Some(choice) = path.choices.pop() {
-        match pass(alloc, library, path, choice, &ball, at)? {
+        match pass(alloc, compiled, path, choice, &ball, at)? {
             Passing::Takes => return Ok(Going::On),
             Passing::Passes(next) => at = next,
             Passing::Raises(other, next) => {
@@ -101,15 +100,15 @@ fn throw(
 // Hands a ball to a record that was taken off.
 fn pass(
     alloc: Global,
-    library: &Library,
+    compiled: &CompiledProgram,
     path: &mut Path,
     choice: Choice,
     ball: &Term,
     at: Rest,
 ) -> Result<Passing, NoMemory>
-    requires library { IsLibrary library.now }
-    requires well { IsWellWith library.now path.old (choice ∷ reverse path.old.choices.items) path.old.depth }
-    ensures { IfOk result (λ r. Hands library.now path.old path.new choice ball.now at r) }
+    requires compiled { IsCompiled compiled.now }
+    requires well { IsWellWith compiled.now path.old (choice ∷ reverse path.old.choices.items) path.old.depth }
+    ensures { IfOk result (λ r. Hands compiled.now path.old path.new choice ball.now at r) }
 {
     match choice.kind {
         ChoiceKind::Clauses { .. } => {
@@ -131,10 +130,10 @@ fn pass(
             catcher,
             recovery,
         } => {
-            let (next, active) = outward(library, path, at, choice.depth);
+            let (next, active) = outward(compiled, path, at, choice.depth);
             if active {
                 return catch(
-                    alloc, library, path, choice, ball, at, next, name, catcher, recovery,
+                    alloc, compiled, path, choice, ball, at, next, name, catcher, recovery,
                 );
             }
             path.depth = choice.depth;
@@ -144,14 +143,14 @@ fn pass(
 }
 
 // From a place on, where the exits below a depth begin, and whether the exit of this depth is before it.
-fn outward(library: &Library, path: &Path, from: Rest, depth: usize) -> (Rest, bool)
-    requires library { IsLibrary library.now }
-    ensures leads { Leads library.now path.now from result.0 depth }
-    ensures active { MatchBool result.1 (has (exits_here library.now path.now from) depth ≡ true) (Falling (language_of library.now) (exits_here library.now path.now from) → has (exits_here library.now path.now from) depth ≡ false) }
+fn outward(compiled: &CompiledProgram, path: &Path, from: Rest, depth: usize) -> (Rest, bool)
+    requires compiled { IsCompiled compiled.now }
+    ensures leads { Leads compiled.now path.now from result.0 depth }
+    ensures active { MatchBool result.1 (has (exits_here compiled.now path.now from) depth ≡ true) (Falling (language_of compiled.now) (exits_here compiled.now path.now from) → has (exits_here compiled.now path.now from) depth ≡ false) }
 {
     let mut at = from;
     loop {
-        match step(library, path, at, depth) {
+        match step(compiled, path, at, depth) {
             Way::Down(next) => at = next,
             Way::Exit(next) => return (next, true),
             Way::Past => return (at, false),
@@ -160,9 +159,9 @@ fn outward(library: &Library, path: &Path, from: Rest, depth: usize) -> (Rest, b
 }
 
 // One step outward from a place, to the exit of a depth.
-fn step(library: &Library, path: &Path, at: Rest, depth: usize) -> Way
-    requires library { IsLibrary library.now }
-    ensures { Wends library.now path.now at depth result }
+fn step(compiled: &CompiledProgram, path: &Path, at: Rest, depth: usize) -> Way
+    requires compiled { IsCompiled compiled.now }
+    ensures { Wends compiled.now path.now at depth result }
 {
     let Some(frame) = path.frames.get(at.f) else {
         return Way::Past;
@@ -173,7 +172,7 @@ fn step(library: &Library, path: &Path, at: Rest, depth: usize) -> Way
     };
     match frame.part {
         Part::Body => {
-            let pc = body_end(library, frame.setting, at.pc, frame.ppc);
+            let pc = body_end(compiled, frame.setting, at.pc, frame.ppc);
             Way::Down(Rest {
                 f: frame.parent,
                 pc,
@@ -196,13 +195,13 @@ fn step(library: &Library, path: &Path, at: Rest, depth: usize) -> Way
 }
 
 // Where the frame around a body goes on after the body, from a place in the body on: at `after`, or behind a condition.
-fn body_end(library: &Library, setting: Setting, start: usize, after: usize) -> usize
-    requires library { IsLibrary library.now }
-    ensures { (s : State) (outer : ℕ → Items ℕ) → pops (items_from (running (bodies library.now) s setting) (outer after) outer start) ≡ pops (outer result) }
+fn body_end(compiled: &CompiledProgram, setting: Setting, start: usize, after: usize) -> usize
+    requires compiled { IsCompiled compiled.now }
+    ensures { (s : State) (outer : ℕ → Items ℕ) → pops (items_from (running (bodies compiled.now) s setting) (outer after) outer start) ≡ pops (outer result) }
 {
     let mut pc = start;
     loop {
-        let Some(found) = instruction(library, setting.clause, pc) else {
+        let Some(found) = instruction(compiled, setting.clause, pc) else {
             return after;
         };
         match found {
@@ -216,7 +215,7 @@ fn body_end(library: &Library, setting: Setting, start: usize, after: usize) -> 
 // catch are below the record of the catch, so that none of them is gone.
 fn catch(
     alloc: Global,
-    library: &Library,
+    compiled: &CompiledProgram,
     path: &mut Path,
     choice: Choice,
     ball: &Term,
@@ -226,12 +225,12 @@ fn catch(
     catcher: Ref,
     recovery: Ref,
 ) -> Result<Passing, NoMemory>
-    requires library { IsLibrary library.now }
-    requires well { IsWellWith library.now path.old (choice ∷ reverse path.old.choices.items) path.old.depth }
+    requires compiled { IsCompiled compiled.now }
+    requires well { IsWellWith compiled.now path.old (choice ∷ reverse path.old.choices.items) path.old.depth }
     requires kind { choice.kind ≡ Kind.Catch name catcher recovery }
-    requires leads { Leads library.now path.old at next choice.depth }
-    requires active { has (exits_here library.now path.old at) choice.depth ≡ true }
-    ensures { IfOk result (λ r. Hands library.now path.old path.new choice ball.now at r) }
+    requires leads { Leads compiled.now path.old at next choice.depth }
+    requires active { has (exits_here compiled.now path.old at) choice.depth ≡ true }
+    ensures { IfOk result (λ r. Hands compiled.now path.old path.new choice ball.now at r) }
 {
     path.go_back(choice);
     let copy = copy_of(alloc, &mut path.store, ball)?;
@@ -245,27 +244,27 @@ fn catch(
         path.depth = choice.depth;
         return Ok(Passing::Passes(next));
     }
-    let constructs = &library.constructs;
+    let constructs = &compiled.constructs;
     let called = constructs.goal_of(alloc, &mut path.store, recovery, name, 3)?;
     let _next = path.store.next_var();
-    recover(alloc, library, path, choice, called)
+    recover(alloc, compiled, path, choice, called)
 }
 
 // Goes on with the recovery of a catch, or with the ball of its error.
 fn recover(
     alloc: Global,
-    library: &Library,
+    compiled: &CompiledProgram,
     path: &mut Path,
     choice: Choice,
     called: Called,
 ) -> Result<Passing, NoMemory>
-    requires library { IsLibrary library.now }
+    requires compiled { IsCompiled compiled.now }
     requires place { IsPlace (state_of path.old) called }
     requires some { 0 < choice.rest × choice.rest ≤ length path.old.frames }
     requires floor { floor_of (reverse path.old.choices.items) ≤ length path.old.frames }
     requires base { (setting_in (place_get (reverse path.old.frames) choice.rest)).base ≤ (state_of path.old).next }
     requires low { choice.depth + 1 ≤ path.old.depth }
-    ensures { IfOk result (λ r. Recovers library.now path.old path.new choice called r) }
+    ensures { IfOk result (λ r. Recovers compiled.now path.old path.new choice called r) }
 {
     let (f, pc) = path.frames.after(choice.rest, 0);
     let rest = Rest { f, pc };
@@ -278,7 +277,7 @@ fn recover(
                 depth: path.depth,
                 ..setting
             };
-            enter_goals(alloc, library, path, goal, inner, rest)?;
+            enter_goals(alloc, compiled, path, goal, inner, rest)?;
             Ok(Passing::Takes)
         }
         Called::Ball(place) => {

@@ -1,12 +1,11 @@
 //! What stands first where a run stands.
 ghost use Rattle.std.specs.Prelude.{◌≡◌};
 ghost use Rattle.goal_code.specs.Runs.{instruction_at};
-ghost use Rattle.goal_records.specs.Denotation.{bodies};
+ghost use Rattle.goal_state.specs.Denotation.{bodies};
 
 use crate::active::Rest;
 use goal_code::Instruction;
-use goal_frames::Setting;
-use goal_records::Library;
+use goal_state::{CompiledProgram, Setting};
 use pl_store::ClauseId;
 use pl_unify::Ref;
 
@@ -18,11 +17,11 @@ pub enum Stand {
 }
 
 /// The instruction at a place in the body of a clause, none past the last clause.
-pub fn instruction(library: &Library, clause: usize, pc: usize) -> Option<Instruction>
-    ensures { result ≡ instruction_at (bodies library.now clause).code pc }
+pub fn instruction(compiled: &CompiledProgram, clause: usize, pc: usize) -> Option<Instruction>
+    ensures { result ≡ instruction_at (bodies compiled.now clause).code pc }
 {
-    if clause < library.codes.len() {
-        let code = library.codes.get(ClauseId(clause));
+    if clause < compiled.codes.len() {
+        let code = compiled.codes.get(ClauseId(clause));
         code.goals.instruction(pc)
     } else {
         None

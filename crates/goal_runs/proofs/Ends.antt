@@ -3,7 +3,7 @@ use Rattle.std.proofs.Common.{◌≡◌, ℕ, List, refl}
 use Rattle.pl_terms.specs.Trees.{Tree}
 use Rattle.pl_terms.specs.Order.{text_of}
 use Rattle.pl_ops.specs.Tables.{Operators}
-use Rattle.search_theory.specs.Search.{End, Failed, CutTo, Thrown, Halted, Spent}
+use Rattle.solver_model.specs.Search.{End, Failed, CutTo, Thrown, Halted, Spent}
 use Rattle.naming_laws.specs.SameRun.{end_by}
 use Rattle.prep_report.specs.Lines.{end_text}
 use Rattle.pl_machine.specs.Running.{end_of}

@@ -13,12 +13,12 @@ use Rattle.unit_model.specs.Directives.{Text}
 use Rattle.goal_model.specs.Program.{Program}
 use Rattle.pl_store.specs.Facts.{IsLinked}
 use Rattle.pl_store.specs.Linked.{Linked, with_names}
-use Rattle.link_program.specs.Linking.{program_of_facts}
+use Rattle.program_model.specs.Linking.{program_of_facts}
 use Rattle.mod_linker.specs.Linking.{SaysSameFurther}
-use Rattle.goal_text.specs.Faults.{IsFault}
-use Rattle.goal_text.specs.Goals.{VariableNames, IsGoal, IsGoalFault, GoalsAreDecided}
-use Rattle.goal_text.specs.declared.fault.GoalFault.{GoalFault}
-use Rattle.goal_text.specs.declared.fault.GoalFault.TheVariants.{Fault, NoMemory}
+use Rattle.goal_runs.specs.GoalFaults.{IsFault}
+use Rattle.goal_runs.specs.Goals.{VariableNames, IsGoal, IsGoalFault, GoalsAreDecided}
+use Rattle.goal_runs.specs.declared.goal_fault.GoalFault.{GoalFault}
+use Rattle.goal_runs.specs.declared.goal_fault.GoalFault.TheVariants.{Fault, NoMemory}
 use Rattle.pl_machine.specs.declared.run.Show.{Show}
 use Rattle.pl_machine.specs.Running.{bytes_by}
 use Rattle.pl_machine.specs.Shown.{events_shown}

@@ -8,7 +8,7 @@ use Rattle.pl_terms.specs.Order.{text_of}
 use Rattle.pl_terms.specs.declared.read_term.VarName.{VarName}
 use Rattle.unit_model.specs.Facts.{Indicator}
 use Rattle.unit_model.specs.Directives.{Text}
-use Rattle.search_theory.specs.Search.{Event, Out, Ans, answers_of}
+use Rattle.solver_model.specs.Search.{Event, Out, Ans, answers_of}
 use Rattle.goal_model.specs.Program.{Program}
 use Rattle.naming_laws.specs.SameRun.{event_by}
 use Rattle.mod_linker.specs.Linking.{is_among, are_among, SaysNothingElse}

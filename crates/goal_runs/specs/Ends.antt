@@ -4,7 +4,7 @@ use Rattle.pl_terms.specs.Trees.{Tree}
 use Rattle.pl_ops.specs.Tables.{Operators}
 use Rattle.text_model.specs.Writing.{written, int_text}
 use Rattle.text_model.specs.declared.Quote.TheVariants.{Quoted as quotes}
-use Rattle.search_theory.specs.Search.{End, Failed, CutTo, Thrown, Halted, Spent}
+use Rattle.solver_model.specs.Search.{End, Failed, CutTo, Thrown, Halted, Spent}
 use Rattle.prep_report.specs.declared.end.End2.{End2}
 use Rattle.prep_report.specs.declared.end.End2.TheVariants as E
 

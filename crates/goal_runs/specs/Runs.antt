@@ -9,17 +9,17 @@ use Rattle.pl_ops.specs.Standard.{standard}
 use Rattle.pl_ops.specs.Tables.{operator, same_text}
 use Rattle.unit_model.specs.Facts.{Facts}
 use Rattle.unit_model.specs.Directives.{Text}
-use Rattle.search_theory.specs.Search.{Outcome, answers_of}
+use Rattle.solver_model.specs.Search.{Outcome, answers_of}
 use Rattle.builtin_model.specs.Naming.{by_texts}
 use Rattle.goal_model.specs.Program.{Clauses, Program}
 use Rattle.goal_model.specs.Run.{run_of}
 use Rattle.naming_laws.specs.SameRun.{SaysSame}
 use Rattle.pl_store.specs.Linked.{Linked}
 use Rattle.pl_store.specs.Runs.{program_of}
-use Rattle.goal_records.specs.Denotation.{linked}
+use Rattle.goal_state.specs.Denotation.{linked}
 use Rattle.mod_linker.specs.Linking.{SaysNothingElse}
-use Rattle.link_program.specs.Linking.{program_of_facts}
-use Rattle.goal_text.specs.Goals.{IsGoal, IsGoalFault}
+use Rattle.program_model.specs.Linking.{program_of_facts}
+use Rattle.goal_runs.specs.Goals.{IsGoal, IsGoalFault}
 use Rattle.prep_report.specs.Lines.{end_text}
 use Rattle.pl_machine.specs.declared.machine.Machine.{Machine}
 use Rattle.pl_machine.specs.declared.run.Show.{Show}
@@ -66,12 +66,12 @@ pub data Shows (us : List (Facts Text)) (budget : ℕ) (goal : List ℕ) (show :
 
 -- the program of a machine says what this one says
 abbrev pub SaysWhat : Machine → Program Text → Type 0
-SaysWhat m q = SaysSame m.library.names (program_of (linked m.library)) q
+SaysWhat m q = SaysSame m.compiled.names (program_of (linked m.compiled)) q
 
 -- a machine over this program has come to the end of a run
 pub record IsFinished (q : Program Text) (budget : ℕ) (f : Finished) (r : Outcomes) : Type 0 where
   pub program : SaysWhat f.machine q
-  pub shown : end_text (operator standard) f.machine.library.names f.end ≡ end_shown (operator standard) r.ended
+  pub shown : end_text (operator standard) f.machine.compiled.names f.end ≡ end_shown (operator standard) r.ended
   pub manner : manner f.end ≡ manner_of r.ended
   pub steps : f.machine.budget - f.machine.left ≡ budget - r.left
   pub answers : f.machine.answers ≡ stopped (length (answers_of r.events))

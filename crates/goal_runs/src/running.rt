@@ -13,11 +13,11 @@ ghost use Rattle.goal_model.specs.Program.{Program as ProgramOf};
 ghost use Rattle.pl_store.specs.Facts.{IsLinked};
 ghost use Rattle.pl_machine.specs.Machine.{IsMachine};
 ghost use Rattle.mod_linker.specs.Linking.{IsLinkOf, SaysSameFurther};
-ghost use Rattle.goal_text.specs.Goals.{GoalsAreDecided};
+ghost use Rattle.goal_runs.specs.Goals.{GoalsAreDecided};
 ghost use Rattle.pl_atoms.specs.Names.{AreDistinct};
 ghost use Rattle.goal_runs.specs.Runs.{Ends, Shows, HasMachine, IsFinished, Says, run_by, bytes_of, events_text, run_over};
 
-use goal_text::{GoalFault, goals_are_decided, read_goal};
+use crate::{GoalFault, goals_are_decided, read_goal};
 use mod_linker::says_same_further;
 use naming_laws::runs_by_texts;
 use pl_atoms::Names;

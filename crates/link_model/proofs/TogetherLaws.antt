@@ -14,7 +14,7 @@ use Rattle.unit_model.specs.Facts.{Facts, Section, SectionKind, interface, body,
 use Rattle.unit_model.specs.Directives.{Text}
 use Rattle.unit_model.specs.Encoding.{kind_byte}
 use Rattle.unit_model.specs.Preparing.{Interface, operators_known}
-use Rattle.preparing_model.specs.Known.{interface_of, interfaces_of}
+use Rattle.unit_model.specs.Known.{interface_of, interfaces_of}
 use Rattle.link_model.specs.Places.{steps}
 use Rattle.link_model.specs.Faults.{Fault, fault, only_if, PlacedInterface, interfaces_in, interfaces_from, same_operator, same_operators, meets}
 use Rattle.link_model.specs.Texts.{known, AllNew, AllAgree}

@@ -8,7 +8,7 @@ use Rattle.unit_model.specs.Facts.{OperatorOf, Need, Section, Facts}
 use Rattle.unit_model.specs.Directives.{Text}
 use Rattle.unit_model.specs.Encoding.{kind_byte}
 use Rattle.unit_model.specs.Preparing.{is_interface}
-use Rattle.preparing_model.specs.Known.{interfaces_of}
+use Rattle.unit_model.specs.Known.{interfaces_of}
 use Rattle.link_model.specs.Places.{same_ind, is_built_in, defining, exporting, reexporting, moding, importing, Placed, places_of, steps}
 use Rattle.link_model.specs.Giving.{is_defining, defines, gives_some}
 use Rattle.link_model.specs.Seeing.{Sort, seeing, giving, Cause, causes}

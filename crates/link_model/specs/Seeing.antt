@@ -4,7 +4,7 @@ use Rattle.std.specs.List.{flat_map, list_any}
 use Rattle.pl_ops.specs.Tables.{same_text}
 use Rattle.unit_model.specs.Facts.{Facts}
 use Rattle.unit_model.specs.Directives.{Text}
-use Rattle.preparing_model.specs.Known.{interfaces_of}
+use Rattle.unit_model.specs.Known.{interfaces_of}
 use Rattle.link_model.specs.Places.{Ind, same_ind, is_built_in, user, system, defining, exporting, reexporting_all, reexporting, moding, importing_all, importing, idle, Placed, places_of, steps}
 use Rattle.link_model.specs.Giving.{defines, Gives, given, given_for}
 

@@ -5,7 +5,7 @@ use Rattle.unit_model.specs.Facts.{Facts}
 use Rattle.unit_model.specs.Directives.{Text}
 use Rattle.unit_model.specs.Preparing.{Interface, operators_known}
 use Rattle.unit_model.specs.Prepared.{Prepared, FirstFault}
-use Rattle.preparing_model.specs.Known.{interfaces_of}
+use Rattle.unit_model.specs.Known.{interfaces_of}
 use Rattle.link_model.specs.Faults.{Fault, first_link}
 
 -- the interfaces of units, the first given first

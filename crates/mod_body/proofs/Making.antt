@@ -1,15 +1,13 @@
 -- Clauses from the cells of terms.
-use Rattle.std.proofs.Common.{◌≡◌, ℕ, suc, ◌<◌, ◌≤◌, List, [], ◌∷◌, ◌++◌, length, codes, nat_eq, Bool, true, false, ◌&&◌, ◌||◌, Option, Some, None, Result, Ok, Err, if◌then◌else◌, refl, sym, ap, ◌∙◌, arith, subst, slice_get}
-use Rattle.std.specs.Option.{option_map}
+use Rattle.std.proofs.Common.{◌≡◌, ℕ, suc, ◌<◌, List, [], ◌∷◌, ◌++◌, length, codes, nat_eq, Bool, true, false, ◌&&◌, ◌||◌, Option, Some, None, Result, Ok, Err, if◌then◌else◌, refl, sym, ap, ◌∙◌, arith, subst}
 use Rattle.std.specs.List.{AllByRecursion}
 use Rattle.std.proofs.lemmas.Bool.{eqb-true, ne_eqb}
-use Rattle.std.proofs.lemmas.Option.{get_or_from_slice_get}
 use Rattle.pl_atoms.specs.Names.{IsFront}
 use Rattle.pl_atoms.proofs.Texts.{same_text-is}
 use Rattle.pl_atoms.proofs.Numbers.{length-front}
 use Rattle.pl_ops.specs.Tables.{Declaration, same_text}
 use Rattle.pl_terms.specs.Trees.{Tree, var, int, atom, comp, Trees, nil, cons, count, back, renamed, all_renamed}
-use Rattle.pl_terms.specs.Cells.{cells, first, IsTerm, IsCell}
+use Rattle.pl_terms.specs.Cells.{cells, first}
 use Rattle.pl_terms.specs.Order.{text_of, texts_of}
 use Rattle.pl_terms.specs.NameBounds.{NamesBelow, AllNamesBelow}
 use Rattle.pl_terms.specs.Occurrence.{occurrences, all_occurrences, first_after, variables}
@@ -24,15 +22,15 @@ use Rattle.pl_terms.specs.declared.cell.Cell.{Cell}
 use Rattle.pl_terms.specs.declared.cell.Cell.TheVariants.{Comp}
 use Rattle.unit_model.specs.declared.facts.What.{What as CodeWhat}
 use Rattle.unit_model.specs.declared.facts.What.TheVariants.{Clause}
-use Rattle.directive_forms.specs.Items.{indicator_text}
-use Rattle.directive_forms.specs.Walks.{first_cell, entered, is_functor}
-use Rattle.directive_forms.proofs.NameBounds.{texts_of-front, NamesBelow-more}
-use Rattle.entry_forms.specs.declared.fault.DirFault.{DirFault}
-use Rattle.entry_forms.specs.declared.fault.DirFault.TheVariants.{Fault}
+use Rattle.term_walk.specs.Items.{indicator_text}
+use Rattle.term_walk.specs.Walks.{first_cell, entered, is_functor}
+use Rattle.term_walk.proofs.NameBounds.{texts_of-front, NamesBelow-more}
+use Rattle.mod_directives.specs.declared.fault.DirFault.{DirFault}
+use Rattle.mod_directives.specs.declared.fault.DirFault.TheVariants.{Fault}
 use Rattle.mod_body.specs.Clauses.{clause_of, clause_by, IsClause}
 use Rattle.unit_model.specs.declared.facts.Entry.{Entry as CodeEntry}
-use Rattle.entry_forms.specs.Reads.{Tells}
-use Rattle.entry_forms.proofs.Putting.{entries_in-push, EntriesBelow-push}
+use Rattle.mod_directives.specs.Reads.{Tells}
+use Rattle.mod_directives.proofs.Putting.{entries_in-push, EntriesBelow-push}
 use Rattle.mod_body.proofs.Steps.{same_cells}
 
 -- the variables of a term don't depend on its names

@@ -10,12 +10,12 @@ use Rattle.pl_terms.proofs.Whole.{IsTerm-cells}
 use Rattle.pl_atoms.specs.Names.{IsFront}
 use Rattle.pl_atoms.proofs.Numbers.{length-front}
 use Rattle.std.proofs.lemmas.Option.{get_or_from_slice_get}
-use Rattle.directive_forms.proofs.NameBounds.{texts_of-front, NamesBelow-more}
+use Rattle.term_walk.proofs.NameBounds.{texts_of-front, NamesBelow-more}
 use Rattle.pl_terms.specs.Forest.{append-nil, tree_of-cells}
 use Rattle.pl_terms.specs.declared.cell.Cell.{Cell}
 use Rattle.pl_terms.specs.declared.cell.Cell.TheVariants.{Comp}
 use Rattle.unit_model.specs.Directives.{is_control, both, control, converted}
-use Rattle.directive_forms.specs.Walks.{first_cell, entered}
+use Rattle.term_walk.specs.Walks.{first_cell, entered}
 use Rattle.pl_terms.specs.NameBounds.{NamesBelow}
 use Rattle.mod_body.specs.declared.convert.Place.TheVariants.{Variable, Integer, Control, Other}
 use Rattle.mod_body.specs.Places.{place_of}

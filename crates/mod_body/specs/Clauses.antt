@@ -8,8 +8,8 @@ use Rattle.unit_model.specs.Directives.{Text, head_indicator}
 use Rattle.unit_model.specs.Facts.{Indicator, What, clause, what_by, what_names}
 use Rattle.unit_model.specs.Views.{what_view}
 use Rattle.unit_model.specs.declared.facts.What.{What as CodeWhat}
-use Rattle.entry_forms.specs.declared.fault.DirFault.{DirFault}
-use Rattle.entry_forms.specs.declared.fault.DirFault.TheVariants.{Fault}
+use Rattle.mod_directives.specs.declared.fault.DirFault.{DirFault}
+use Rattle.mod_directives.specs.declared.fault.DirFault.TheVariants.{Fault}
 
 abbrev pub clause_of : ℕ → Bool → Tree Text → Option (Indicator Text) → Option (Tree Text) → Result (What Text) ℕ
 clause_of n grammar head None body = Err 13

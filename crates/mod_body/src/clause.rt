@@ -8,18 +8,18 @@ ghost use Rattle.pl_terms.specs.NameBounds.{NamesBelow, AllNamesBelow};
 ghost use Rattle.unit_model.specs.Builtins.{is_builtin};
 ghost use Rattle.unit_model.specs.Directives.{head_indicator, converted};
 ghost use Rattle.unit_model.specs.Preparing.{clause_in};
-ghost use Rattle.directive_forms.specs.Items.{indicator_text};
-ghost use Rattle.directive_forms.specs.Walks.{is_functor};
+ghost use Rattle.term_walk.specs.Items.{indicator_text};
+ghost use Rattle.term_walk.specs.Walks.{is_functor};
 ghost use Rattle.mod_body.specs.Clauses.{clause_by, IsClause};
 ghost use Rattle.mod_body.specs.Converting.{converted_by};
-ghost use Rattle.entry_forms.specs.declared.fault.DirFault.TheVariants.{Fault};
+ghost use Rattle.mod_directives.specs.declared.fault.DirFault.TheVariants.{Fault};
 
 use crate::convert::{BodyFault, converted, push_all};
-use directive_forms::{Walk, text};
-use entry_forms::DirFault;
+use mod_directives::DirFault;
 use pl_atoms::{CaseTable, NameId, Names, NoMemory};
 use pl_terms::{Cell, Term, TermBuf};
 use std::alloc::Global;
+use term_walk::{Walk, text};
 use unit_model::{Ind, What, builtins};
 
 /// The clause that a term is: its number of variables, its head and its converted body. P13 where the head is a variable or an

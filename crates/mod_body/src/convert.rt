@@ -5,15 +5,15 @@ ghost use Rattle.pl_terms.specs.Trees.{count};
 ghost use Rattle.pl_terms.specs.Cells.{first, IsCell};
 ghost use Rattle.pl_terms.specs.Order.{text_of, texts_of};
 ghost use Rattle.unit_model.specs.Directives.{is_control, both, converted};
-ghost use Rattle.directive_forms.specs.Walks.{first_cell, size};
+ghost use Rattle.term_walk.specs.Walks.{first_cell, size};
 ghost use Rattle.pl_terms.specs.NameBounds.{NamesBelow};
 ghost use Rattle.mod_body.specs.Places as places;
 ghost use Rattle.mod_body.specs.Converting as spec;
 
-use directive_forms::{Walk, text};
 use pl_atoms::{NameId, Names, NoMemory};
 use pl_terms::{Cell, Term, TermBuf};
 use std::alloc::Global;
+use term_walk::{Walk, text};
 use thiserror::Error;
 
 /// Why a body is not converted.

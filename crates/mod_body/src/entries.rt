@@ -6,18 +6,18 @@ ghost use Rattle.pl_terms.specs.NameBounds.{NamesBelow};
 ghost use Rattle.pl_ops.specs.Tables.{Declaration};
 ghost use Rattle.unit_model.specs.Views.{entries_view};
 ghost use Rattle.unit_model.specs.Preparing.{said, clause_said, sort_of};
-ghost use Rattle.preparing_model.specs.Entries.{EntriesBelow, entries_in};
-ghost use Rattle.preparing_model.specs.Saying.{IsSectionDirective, Says};
-ghost use Rattle.entry_forms.specs.Reads.{Tells};
-ghost use Rattle.entry_forms.specs.declared.fault.DirFault.TheVariants.{Fault};
+ghost use Rattle.unit_model.specs.Entries.{EntriesBelow, entries_in};
+ghost use Rattle.unit_model.specs.Saying.{IsSectionDirective, Says};
+ghost use Rattle.mod_directives.specs.Reads.{Tells};
+ghost use Rattle.mod_directives.specs.declared.fault.DirFault.TheVariants.{Fault};
 
 use crate::clause::clause;
-use directive_forms::Walk;
-use entry_forms::{DirFault, Sort, directive_entries, sort_of};
+use mod_directives::{DirFault, Sort, directive_entries, sort_of};
 use pl_atoms::Names;
 use pl_ops::OpTable;
 use pl_terms::ReadTerm;
 use std::alloc::Global;
+use term_walk::Walk;
 use unit_model::{Entries, Entry};
 
 /// The entries that a term outside interfaces makes, unless it opens or ends a section: its clause, or imported procedures; operators

@@ -7,7 +7,4 @@ mod entries;
 
 pub use convert::{BodyFault, convert_body, is_converted};
 pub use entries::body_entries;
-pub use entry_forms::DirFault;
-
-#[cfg(test)]
-mod tests;
+pub use mod_directives::DirFault;

@@ -3,5 +3,5 @@
 
 mod interface;
 
-pub use entry_forms::DirFault;
 pub use interface::interface_entries;
+pub use mod_directives::DirFault;

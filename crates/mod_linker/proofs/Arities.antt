@@ -6,7 +6,7 @@ use Rattle.std.proofs.lemmas.Bool.{and_parts}
 use Rattle.std.proofs.lemmas.Option.{same_Some}
 use Rattle.unit_model.specs.Facts.{Indicator, What, exports, reexports_all, reexports, has_modes, declares, imports_all, imports, clause}
 use Rattle.unit_model.specs.Directives.{Text}
-use Rattle.link_program.specs.Saying.{Said, modes_in, modes_said}
+use Rattle.program_model.specs.Saying.{Said, modes_in, modes_said}
 use Rattle.mod_linker.specs.declared.items.Item.{Item}
 use Rattle.mod_linker.specs.declared.key.Key.{Key}
 use Rattle.mod_linker.specs.Entering.{HaveArity}

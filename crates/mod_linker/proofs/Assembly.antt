@@ -13,9 +13,9 @@ use Rattle.link_model.specs.Faults.{unmet, repeated, missing, clashes, split_at,
 use Rattle.link_model.specs.Rows.{Row as RowOf, rows_of}
 use Rattle.naming_laws.specs.SameRun.{SaysSame, IsNamedBelow}
 use Rattle.mod_visible.specs.Finding.{AreRows}
-use Rattle.link_program.specs.Saying.{Said, said, clauses_said, modes_said}
-use Rattle.link_program.specs.Linking.{definer_in, program_of_facts}
-use Rattle.pl_store.specs.Linked.{Linked, Procedure, Entered, Row, is_system, is_module, procedure_at, visible_in}
+use Rattle.program_model.specs.Saying.{Said, said, clauses_said, modes_said}
+use Rattle.program_model.specs.Linking.{definer_in, program_of_facts}
+use Rattle.pl_store.specs.Linked.{Linked, Procedure, StoredClause, Row, is_system, is_module, procedure_at, visible_in}
 use Rattle.pl_store.specs.Facts.{IsLinked}
 use Rattle.pl_store.specs.Runs.{number_of, clauses_from, modes_from, program_of}
 use Rattle.mod_linker.specs.declared.key.Key.{Key}
@@ -50,7 +50,7 @@ enters-kept : (l m : Linked) (all done : List (Said ℕ)) → m.procedures ≡ l
 enters-kept l m all done ps cs h = record {
   clauses = λ d i.
       subst (λ (x : List Procedure). clauses_from (record m { procedures = x }) (number_of (record m { procedures = x }) d i) ≡ clauses_said nat_eq done d i) (sym ps)
-      (subst (λ (y : List Entered). clauses_from (record m { procedures = l.procedures; clauses = y }) (number_of (record m { procedures = l.procedures; clauses = y }) d i) ≡ clauses_said nat_eq done d i) (sym cs) (h.clauses d i));
+      (subst (λ (y : List StoredClause). clauses_from (record m { procedures = l.procedures; clauses = y }) (number_of (record m { procedures = l.procedures; clauses = y }) d i) ≡ clauses_said nat_eq done d i) (sym cs) (h.clauses d i));
   modes = λ p lt.
       subst (λ (x : List Procedure). (procedure_at (record m { procedures = x }) p).modes ≡ modes_said nat_eq all (procedure_at (record m { procedures = x }) p).home (procedure_at (record m { procedures = x }) p).indicator) (sym ps)
       (h.modes p (subst (λ (x : List Procedure). p < length x) ps lt));

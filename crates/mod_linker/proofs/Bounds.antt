@@ -8,7 +8,7 @@ use Rattle.pl_terms.specs.NameBounds.{NamesBelow}
 use Rattle.unit_model.specs.Facts.{Indicator}
 use Rattle.goal_model.specs.Program.{Clause}
 use Rattle.naming_laws.specs.SameRun.{IsNamedBelow}
-use Rattle.pl_store.specs.Linked.{Linked, Entered, is_system, is_module, procedure_at, no_clause, visible_in}
+use Rattle.pl_store.specs.Linked.{Linked, StoredClause, is_system, is_module, procedure_at, no_clause, visible_in}
 use Rattle.pl_store.specs.Rules.{IsExisting}
 use Rattle.pl_store.specs.Facts.{IsLinked}
 use Rattle.pl_store.specs.Runs.{number_of, clauses_from, program_of}
@@ -35,7 +35,7 @@ existing-below l h m e = elim (or_cases (is_system l.names m) (is_module l m) e)
 abbrev pub BelowNames : ℕ → Clause ℕ → Type 0
 BelowNames n c = NamesBelow n c.head × NamesBelow n c.body
 
-each-below : (n q : ℕ) (cs : List Entered) → ((k : ℕ) → k < length cs → BelowNames n (get_or cs k no_clause).clause) → (k : ℕ) (d : Clause ℕ) → k < length (map (λ c. c.clause) (filter (λ c. nat_eq q c.procedure) cs))
+each-below : (n q : ℕ) (cs : List StoredClause) → ((k : ℕ) → k < length cs → BelowNames n (get_or cs k no_clause).clause) → (k : ℕ) (d : Clause ℕ) → k < length (map (λ c. c.clause) (filter (λ c. nat_eq q c.procedure) cs))
     → BelowNames n (get_or (map (λ c. c.clause) (filter (λ c. nat_eq q c.procedure) cs)) k d)
 each-below n q [] h k d lt = absurd (omega arith)
 each-below n q (c ∷ cs) h k d lt = go (nat_eq q c.procedure) (h 0 (omega arith)) (each-below n q cs (λ j less. h (suc j) (omega arith))) k d lt

@@ -15,7 +15,7 @@ use Rattle.unit_format.proofs.Renaming.{AllBy-parts}
 use Rattle.mod_visible.specs.Placing.{AllBelow}
 use Rattle.pl_store.specs.Linked.{Linked, procedure_at}
 use Rattle.pl_store.specs.Rules.{indicator_of, IsClauseOf}
-use Rattle.link_program.specs.Saying.{head_indicator}
+use Rattle.program_model.specs.Saying.{head_indicator}
 
 mutual
   tree_below : (n : ℕ) (t : Tree ℕ) → AllBelow n (tree_names t) → NamesBelow n t

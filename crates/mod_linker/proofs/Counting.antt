@@ -1,6 +1,5 @@
 -- How many modules and procedures units and their program have.
 use Rattle.std.proofs.Common.{◌≡◌, ℕ, suc, ◌<◌, List, [], ◌∷◌, ◌++◌, length, map, fold, Bool, true, false, not, ◌&&◌, ◌||◌, cond, nat_eq, eqb, refl, sym, ap, subst, ◌∙◌, Option, Some, None}
-use Rattle.std.specs.Prelude.{codes}
 use Rattle.std.specs.List.{AllByRecursion, filter_map, flat_map, list_any, list_all, cons_option}
 use Rattle.std.specs.Option.{option_map}
 use Rattle.std.proofs.lemmas.Bool.{and_parts}
@@ -16,10 +15,10 @@ use Rattle.unit_model.specs.Encoding.{text_at}
 use Rattle.unit_model.specs.Preparing.{Interface, is_interface, operators_of}
 use Rattle.unit_model.specs.Validity.{is_user, is_system, begins_with_user, keeps_rules}
 use Rattle.unit_format.proofs.Renaming.{AllBy-parts}
-use Rattle.preparing_model.specs.Known.{interface_of, interfaces_of}
-use Rattle.link_model.specs.Places.{same_ind, user, system, Placed, defined_by, role_of, place_of, places_in, places_from, places_of}
-use Rattle.link_program.specs.Saying.{Said, said_by, said_of, said_in, said, head_indicator}
-use Rattle.link_faults.proofs.Lookups.{same_number}
+use Rattle.unit_model.specs.Known.{interface_of, interfaces_of}
+use Rattle.link_model.specs.Places.{same_ind, user, system, defined_by, role_of, place_of, places_in, places_from, places_of}
+use Rattle.program_model.specs.Saying.{Said, said_by, said_of, said_in, said, head_indicator}
+use Rattle.mod_faults.proofs.Lookups.{same_number}
 use Rattle.mod_visible.specs.Placing.{AllBelow}
 use Rattle.pl_store.specs.Linked.{Linked, Procedure, is_procedure}
 use Rattle.mod_linker.specs.Counting.{with_one, each_once, interface_texts, linked_modules, Defined, same_defined, defined_in, defined_at, linked_procedures}

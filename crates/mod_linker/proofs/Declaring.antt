@@ -3,8 +3,8 @@ use Rattle.std.proofs.Common.{◌≡◌, ℕ, ◌+◌, ◌<◌, List, [], ◌∷
 use Rattle.std.specs.Map.{lookup}
 use Rattle.std.specs.Option.{option_or}
 use Rattle.std.proofs.lemmas.List.{map-append}
-use Rattle.link_program.specs.Saying.{modes_in, modes_said}
-use Rattle.link_faults.proofs.Units.{more_taken}
+use Rattle.program_model.specs.Saying.{modes_in, modes_said}
+use Rattle.mod_faults.proofs.Units.{more_taken}
 use Rattle.mod_linker.specs.declared.items.Item.{Item}
 use Rattle.mod_linker.specs.declared.key.Key.{Key}
 use Rattle.mod_linker.specs.Items.{item_view, items_view}

@@ -14,8 +14,8 @@ use Rattle.link_model.specs.Places.{Ind, same_ind, Role, defining, exporting, re
 use Rattle.link_model.specs.Giving.{defines, gives_some}
 use Rattle.link_model.specs.Faults.{Fault, fault, only_if, missing, least}
 use Rattle.link_model.proofs.Same.{same_ind-is}
-use Rattle.link_program.specs.Saying.{Said, said_of, said_in, said, head_indicator, same_indicator, is_its, clause_in, clauses_said, modes_in, modes_said}
-use Rattle.link_faults.proofs.Repeating.{same_text-flip}
+use Rattle.program_model.specs.Saying.{Said, said_of, said_in, said, head_indicator, same_indicator, is_its, clause_in, clauses_said, modes_in, modes_said}
+use Rattle.mod_faults.proofs.Repeating.{same_text-flip}
 
 -- ---- lists without faults
 

@@ -1,22 +1,21 @@
 -- The modules of all sections exist where no need is unmet.
-use Rattle.std.proofs.Common.{◌≡◌, ℕ, nat_eq, List, [], ◌∷◌, ◌++◌, length, map, Bool, true, false, not, ◌&&◌, ◌||◌, cond, refl, sym, ap, subst, ◌∙◌, append_assoc, Some, None}
+use Rattle.std.proofs.Common.{◌≡◌, ℕ, nat_eq, List, [], ◌∷◌, ◌++◌, length, map, Bool, true, false, not, ◌&&◌, ◌||◌, cond, refl, sym, ap, subst, ◌∙◌, append_assoc, Some, None, inl, inr}
 use Rattle.std.specs.List.{AllByRecursion, flat_map, filter_map, list_any, list_all, cons_option}
 use Rattle.std.proofs.lemmas.Bool.{and_parts, or_cases, or_left, or_right}
 use Rattle.std.proofs.lemmas.List.Concat.{flat_map-append}
 use Rattle.std.proofs.lemmas.List.Folds.{list_any-append}
-use Rattle.std.proofs.Common.{inl, inr}
 use Rattle.pl_atoms.proofs.Texts.{same_text-is, same_text-itself}
 use Rattle.pl_ops.specs.Tables.{same_text}
 use Rattle.unit_model.specs.Facts.{OperatorOf, Need, Entry, Section, Facts}
 use Rattle.unit_model.specs.Directives.{Text}
 use Rattle.unit_model.specs.Preparing.{Interface, is_interface, operators_of}
 use Rattle.unit_model.specs.Validity.{operators_of as valid_operators, is_user, begins_with_user, has_its_entries, is_accepted, is_clause, are_needs, own_modules, holds, knows, known_in, all_known, keeps_rules}
-use Rattle.preparing_model.specs.Known.{interface_of, interfaces_of}
+use Rattle.unit_model.specs.Known.{interface_of, interfaces_of}
 use Rattle.link_model.specs.Places.{user, system, steps}
 use Rattle.link_model.specs.Seeing.{exists}
 use Rattle.link_model.specs.Faults.{Fault, fault, only_if, same_operators, meets, unmet}
-use Rattle.link_program.specs.Saying.{Said, said_of, said_in, said}
-use Rattle.link_faults.proofs.Repeating.{same_text-flip}
+use Rattle.program_model.specs.Saying.{Said, said_of, said_in, said}
+use Rattle.mod_faults.proofs.Repeating.{same_text-flip}
 use Rattle.mod_linker.proofs.Defined.{append-none, only-none, all_append}
 
 abbrev has_interface : Text → List Interface → Bool

@@ -9,7 +9,7 @@ use Rattle.pl_atoms.specs.Names.{same_text, AreDistinct, IsFront}
 use Rattle.pl_atoms.proofs.Texts.{same_text-is}
 use Rattle.pl_atoms.proofs.Numbers.{length-front, get_or-front, number-is}
 use Rattle.pl_terms.specs.Trees.{Tree, renamed}
-use Rattle.directive_forms.proofs.NameBounds.{texts_of-front}
+use Rattle.term_walk.proofs.NameBounds.{texts_of-front}
 use Rattle.unit_model.specs.Facts.{Indicator, indicator_by}
 use Rattle.unit_model.specs.Directives.{Text}
 use Rattle.unit_model.specs.Encoding.{text_at}
@@ -22,7 +22,7 @@ use Rattle.pl_store.specs.Facts.{IsLinked, no_row}
 use Rattle.pl_store.specs.Runs.{number_of, clauses_from, modes_from, program_of}
 use Rattle.pl_store.proofs.FactLaws.{names-grow}
 use Rattle.pl_store.proofs.WalkLaws.{visible-there}
-use Rattle.link_faults.proofs.Lookups.{or_false}
+use Rattle.mod_faults.proofs.Lookups.{or_false}
 use Rattle.mod_linker.specs.Linking.{is_among, are_among, SaysNothingElse, SaysSameFurther}
 use Rattle.mod_linker.proofs.Among.{and_false, any-default}
 use Rattle.mod_linker.proofs.Bounds.{module-below, existing-below, BelowNames, named-below}

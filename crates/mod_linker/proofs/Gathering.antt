@@ -25,9 +25,9 @@ use Rattle.unit_format.specs.Uses.{what_uses, entry_uses, section_uses}
 use Rattle.unit_format.proofs.Renaming.{AllBy-parts}
 use Rattle.unit_format.proofs.Fit.{fits}
 use Rattle.mod_visible.specs.Placing.{AllBelow, ModesFit}
-use Rattle.link_program.specs.Saying.{Said, said_by, said_of, said_in}
-use Rattle.link_faults.proofs.Units.{AllBy-at, more_taken, sections_below}
-use Rattle.link_faults.proofs.Tables.{text_there, number_there}
+use Rattle.program_model.specs.Saying.{Said, said_by, said_of, said_in}
+use Rattle.mod_faults.proofs.Units.{AllBy-at, more_taken, sections_below}
+use Rattle.mod_faults.proofs.Tables.{text_there, number_there}
 use Rattle.mod_linker.specs.declared.items.Item.{Item}
 use Rattle.mod_linker.specs.Items.{item_view, items_view, saids_of, IsEntryOf, IsSectionOf, IsNarrow, IsItem, AreItems}
 

@@ -7,11 +7,11 @@ use Rattle.std.proofs.lemmas.List.{append-nil}
 use Rattle.std.proofs.lemmas.List.Quantifiers.{position-Some}
 use Rattle.unit_model.specs.Facts.{Indicator, clause}
 use Rattle.goal_model.specs.Program.{Clause}
-use Rattle.pl_store.specs.Linked.{Linked, Procedure, Entered, is_procedure, procedure_at, no_procedure, no_clause, with_procedure, with_clause}
+use Rattle.pl_store.specs.Linked.{Linked, Procedure, StoredClause, is_procedure, procedure_at, no_procedure, no_clause, with_procedure, with_clause}
 use Rattle.pl_store.specs.Runs.{number_of, clauses_from}
 use Rattle.pl_store.specs.Facts.{IsLinked}
 use Rattle.pl_store.proofs.WalkLaws.{number-is}
-use Rattle.link_program.specs.Saying.{Said, said_of, head_indicator, is_its, clause_in, clauses_said, modes_said}
+use Rattle.program_model.specs.Saying.{Said, said_of, head_indicator, is_its, clause_in, clauses_said, modes_said}
 use Rattle.mod_linker.specs.Entering.{Enters}
 use Rattle.mod_linker.proofs.Positions.{position-push, get_or-left, get_or-last}
 use Rattle.mod_linker.proofs.Saying.{clauses-push}
@@ -42,7 +42,7 @@ if_new true o n h = ap (λ x. option_or x (Some n)) (h refl)
 if_new false None n h = refl
 if_new false (Some k) n h = refl
 
-none_of : (cs : List Entered) (n : ℕ) → ((c : ℕ) → c < length cs → (get_or cs c no_clause).procedure < n) → filter (λ c. nat_eq n c.procedure) cs ≡ []
+none_of : (cs : List StoredClause) (n : ℕ) → ((c : ℕ) → c < length cs → (get_or cs c no_clause).procedure < n) → filter (λ c. nat_eq n c.procedure) cs ≡ []
 none_of [] n h = refl
 none_of (c ∷ cs) n h = go (nat_eq n c.procedure) refl (none_of cs n (λ k lt. h (suc k) (omega arith)))
   where
@@ -57,7 +57,7 @@ module _ (l : Linked) (linked : IsLinked l) (p : Procedure) (new : number_of l p
       ∙ if_new (is_procedure d i p) (number_of l d i) (length l.procedures) (λ e. let same = its d i p e in ap (λ x. number_of l x i) same.0 ∙ ap (number_of l p.home) same.1 ∙ new)
 
   no_clauses : clauses_from (with_procedure l p) (Some (length l.procedures)) ≡ []
-  no_clauses = ap (map (λ (c : Entered). c.clause)) (none_of l.clauses (length l.procedures) (λ c lt. (linked.clauses c lt).procedure))
+  no_clauses = ap (map (λ (c : StoredClause). c.clause)) (none_of l.clauses (length l.procedures) (λ c lt. (linked.clauses c lt).procedure))
 
   module _ (all done : List (Said ℕ)) (modes : p.modes ≡ modes_said nat_eq all p.home p.indicator) (h : Enters all done l) where
     kept : (d : ℕ) (i : Indicator ℕ) (b : Bool) → is_procedure d i p ≡ b → clauses_from (with_procedure l p) (cond b (Some (length l.procedures)) (number_of l d i)) ≡ clauses_said nat_eq done d i
@@ -92,7 +92,7 @@ module _ (l : Linked) (linked : IsLinked l) (p : Procedure) (new : number_of l p
 
 -- ---- one more clause
 
-clauses-more : (cs : List Entered) (e : Entered) (q : ℕ) → map (λ c. c.clause) (filter (λ c. nat_eq q c.procedure) (cs ++ e ∷ [])) ≡ map (λ c. c.clause) (filter (λ c. nat_eq q c.procedure) cs) ++ cond (nat_eq q e.procedure) (e.clause ∷ []) []
+clauses-more : (cs : List StoredClause) (e : StoredClause) (q : ℕ) → map (λ c. c.clause) (filter (λ c. nat_eq q c.procedure) (cs ++ e ∷ [])) ≡ map (λ c. c.clause) (filter (λ c. nat_eq q c.procedure) cs) ++ cond (nat_eq q e.procedure) (e.clause ∷ []) []
 clauses-more [] e q = go (nat_eq q e.procedure)
   where
     go : (b : Bool) → map (λ c. c.clause) (cond b (e ∷ []) []) ≡ cond b (e.clause ∷ []) []

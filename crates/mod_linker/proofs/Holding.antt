@@ -10,15 +10,15 @@ use Rattle.unit_model.specs.Directives.{Text}
 use Rattle.unit_model.specs.Encoding.{text_at}
 use Rattle.unit_model.specs.Preparing.{Interface}
 use Rattle.unit_model.specs.Validity.{keeps_rules}
-use Rattle.preparing_model.specs.Known.{interfaces_of}
+use Rattle.unit_model.specs.Known.{interfaces_of}
 use Rattle.link_model.specs.Places.{user, system}
 use Rattle.link_model.specs.Seeing.{exists}
-use Rattle.link_program.specs.Saying.{Said, said_by, said}
+use Rattle.program_model.specs.Saying.{Said, said_by, said}
 use Rattle.pl_store.specs.Linked.{Linked, Procedure, is_procedure, is_system, is_module, empty, with_names}
 use Rattle.pl_store.specs.Rules.{IsExisting}
 use Rattle.pl_store.specs.Runs.{clauses_from}
-use Rattle.link_faults.proofs.Lookups.{or_false}
-use Rattle.link_faults.proofs.Repeating.{same_text-flip}
+use Rattle.mod_faults.proofs.Lookups.{or_false}
+use Rattle.mod_faults.proofs.Repeating.{same_text-flip}
 use Rattle.mod_linker.specs.declared.items.Item.{Item}
 use Rattle.mod_linker.specs.declared.key.Key.{Key}
 use Rattle.mod_linker.specs.Counting.{with_one}

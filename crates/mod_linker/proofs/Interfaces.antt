@@ -1,6 +1,6 @@
 -- The modules that units add, section by section and unit by unit.
 use Rattle.std.proofs.Common.{◌≡◌, ℕ, zero, suc, ◌+◌, ◌<◌, ◌≤◌, List, [], ◌∷◌, ◌++◌, length, map, take, get_or, slice_get, true, refl, sym, ap, subst, ◌∙◌, arith, cond, Some, None}
-use Rattle.std.specs.List.{AllByRecursion, list_any, flat_map}
+use Rattle.std.specs.List.{AllByRecursion, list_any, flat_map, filter_map, cons_option}
 use Rattle.std.proofs.lemmas.List.{append-nil, take_all, map-append}
 use Rattle.std.proofs.lemmas.List.Concat.{flat_map-append}
 use Rattle.pl_atoms.specs.Names.{same_text}
@@ -11,15 +11,14 @@ use Rattle.unit_model.specs.Views.{kind_view, section_view}
 use Rattle.unit_model.specs.declared.facts.Section.{Section}
 use Rattle.unit_model.specs.declared.facts.SectionKind.{SectionKind}
 use Rattle.unit_model.specs.declared.facts.SectionKind.TheVariants.{Interface, Body}
-use Rattle.preparing_model.specs.Known.{interface_of}
+use Rattle.unit_model.specs.Known.{interface_of}
 use Rattle.unit_model.specs.Preparing.{Interface as InterfaceOf, is_interface, operators_of}
-use Rattle.std.specs.List.{filter_map, cons_option}
 use Rattle.unit_format.specs.Views.{unit_facts}
 use Rattle.unit_format.specs.declared.unit.Unit.{Unit as ReadUnit}
 use Rattle.unit_format.specs.Uses.{section_uses}
 use Rattle.mod_visible.specs.Placing.{AllBelow}
 use Rattle.pl_store.specs.Linked.{Linked, with_module}
-use Rattle.link_faults.proofs.Units.{more_taken, AllBy-at, sections_below}
+use Rattle.mod_faults.proofs.Units.{more_taken, AllBy-at, sections_below}
 use Rattle.mod_linker.specs.Modules.{module_texts, if_interface, section_texts, AddsModules}
 use Rattle.mod_linker.proofs.Modular.{adds-more, adds-one}
 

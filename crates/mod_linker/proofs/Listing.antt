@@ -11,8 +11,8 @@ use Rattle.unit_model.specs.Encoding.{text_at}
 use Rattle.unit_model.specs.declared.facts.Section.{Section}
 use Rattle.unit_format.specs.Views.{unit_facts}
 use Rattle.unit_format.specs.declared.unit.Unit.{Unit as ReadUnit}
-use Rattle.link_program.specs.Saying.{Said, said_by, said_in, said}
-use Rattle.link_faults.proofs.Units.{more_taken}
+use Rattle.program_model.specs.Saying.{Said, said_by, said_in, said}
+use Rattle.mod_faults.proofs.Units.{more_taken}
 use Rattle.mod_linker.specs.Items.{saids_of, IsSectionOf}
 use Rattle.mod_linker.proofs.Gathering.{saids_same, unit_sections}
 

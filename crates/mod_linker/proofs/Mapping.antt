@@ -12,7 +12,7 @@ use Rattle.unit_model.specs.Validity.{is_head}
 use Rattle.unit_format.proofs.CellLaws.{count-back}
 use Rattle.unit_format.proofs.Renaming.{AllBy-parts}
 use Rattle.mod_visible.specs.Placing.{AllBelow}
-use Rattle.link_program.specs.Saying.{head_indicator}
+use Rattle.program_model.specs.Saying.{head_indicator}
 use Rattle.mod_linker.specs.Cells.{mapped_cell, CellBelow, begun, is_begun}
 use Rattle.mod_linker.proofs.Gathering.{all_append}
 

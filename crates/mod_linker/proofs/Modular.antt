@@ -1,5 +1,5 @@
 -- Names and modules of a program, one after another.
-use Rattle.std.proofs.Common.{◌≡◌, ℕ, suc, ◌+◌, ◌<◌, List, [], ◌∷◌, ◌++◌, length, take, get_or, slice_get, map, fold, Bool, true, false, not, ◌&&◌, ◌||◌, cond, nat_eq, eqb, eqb-true, refl, sym, ap, subst, ◌∙◌, arith, Some}
+use Rattle.std.proofs.Common.{◌≡◌, ℕ, suc, ◌+◌, ◌<◌, List, [], ◌∷◌, ◌++◌, length, take, get_or, slice_get, fold, Bool, true, false, not, ◌&&◌, ◌||◌, cond, nat_eq, eqb, eqb-true, refl, sym, ap, subst, ◌∙◌, arith, Some}
 use Rattle.std.specs.Prelude.{codes}
 use Rattle.std.specs.List.{list_any}
 use Rattle.std.proofs.lemmas.List.{take_more, length-take, get_or-take}
@@ -12,7 +12,7 @@ use Rattle.pl_atoms.proofs.Numbers.{number-is}
 use Rattle.unit_model.specs.Directives.{Text}
 use Rattle.unit_model.specs.Encoding.{text_at}
 use Rattle.pl_store.specs.Linked.{Linked, is_system, is_module, with_module}
-use Rattle.link_faults.proofs.Lookups.{or_false, any_insert, same_number}
+use Rattle.mod_faults.proofs.Lookups.{or_false, any_insert, same_number}
 use Rattle.mod_linker.specs.Counting.{with_one}
 use Rattle.mod_linker.specs.Modules.{AreModules, with_module_text, AddsModules}
 use Rattle.mod_linker.proofs.Counting.{all-one, one-by}

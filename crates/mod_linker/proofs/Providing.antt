@@ -10,7 +10,7 @@ use Rattle.unit_model.specs.Facts.{Indicator}
 use Rattle.pl_store.specs.Linked.{Linked, Procedure, is_procedure, procedure_at, no_procedure, with_procedure}
 use Rattle.pl_store.specs.Runs.{number_of}
 use Rattle.pl_store.specs.Facts.{IsLinked}
-use Rattle.link_program.specs.Saying.{Said}
+use Rattle.program_model.specs.Saying.{Said}
 use Rattle.mod_linker.specs.declared.key.Key.{Key}
 use Rattle.mod_linker.specs.Keys.{ind_of, same_key, AreKnown}
 use Rattle.mod_linker.specs.Counting.{with_one}

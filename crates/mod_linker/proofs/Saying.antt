@@ -13,8 +13,8 @@ use Rattle.unit_format.proofs.Renaming.{AllBy-parts}
 use Rattle.goal_model.specs.Program.{Clause}
 use Rattle.naming_laws.specs.Translation.{clause_by}
 use Rattle.mod_visible.specs.Placing.{AllBelow}
-use Rattle.link_program.specs.Saying.{Said, said_by, head_indicator, same_indicator, is_its, clause_in, clauses_said, modes_in, modes_said}
-use Rattle.link_faults.proofs.Lookups.{same_number}
+use Rattle.program_model.specs.Saying.{Said, said_by, head_indicator, same_indicator, is_its, clause_in, clauses_said, modes_in, modes_said}
+use Rattle.mod_faults.proofs.Lookups.{same_number}
 use Rattle.mod_linker.specs.Holding.{SaidBelow}
 
 pub count-all_renamed : {N M : Type 0} (f : N → M) (ts : Trees N) → count (all_renamed f ts) ≡ count ts

@@ -14,7 +14,7 @@ use Rattle.link_model.specs.Giving.{defines}
 use Rattle.link_model.specs.Rows.{Row}
 use Rattle.link_model.specs.Seeing.{exists}
 use Rattle.mod_visible.specs.Finding.{IsNamedRow, row_text, indicator, AreRows}
-use Rattle.link_program.specs.Saying.{Said, said, clauses_said}
+use Rattle.program_model.specs.Saying.{Said, said, clauses_said}
 use Rattle.pl_store.specs.Linked.{Linked, is_system, is_module}
 use Rattle.pl_store.specs.Runs.{number_of, clauses_from}
 use Rattle.mod_linker.specs.Holding.{AreSaids, HoldsEntries}

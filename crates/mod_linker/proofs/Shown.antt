@@ -10,9 +10,9 @@ use Rattle.unit_model.specs.Encoding.{text_at}
 use Rattle.search_model.specs.declared.rows.VisibleRow.{VisibleRow}
 use Rattle.link_model.specs.Rows.{Row}
 use Rattle.mod_visible.specs.Finding.{IsNamedRow, row_text}
-use Rattle.link_program.specs.Linking.{is_row, definer_in}
-use Rattle.link_faults.proofs.Lookups.{same_number}
-use Rattle.link_faults.proofs.Tables.{text_there, number_there}
+use Rattle.program_model.specs.Linking.{is_row, definer_in}
+use Rattle.mod_faults.proofs.Lookups.{same_number}
+use Rattle.mod_faults.proofs.Tables.{text_there, number_there}
 use Rattle.mod_linker.specs.Rowing.{Shown, is_shown, definer_shown}
 use Rattle.mod_linker.specs.Showing.{shown_by}
 

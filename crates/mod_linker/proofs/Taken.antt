@@ -14,9 +14,9 @@ use Rattle.unit_format.specs.Uses.{section_uses}
 use Rattle.unit_format.specs.Views.{unit_facts}
 use Rattle.unit_format.specs.declared.unit.Unit.{Unit as ReadUnit}
 use Rattle.mod_visible.specs.Placing.{AllBelow}
-use Rattle.link_faults.specs.Tables.{AreTaken}
-use Rattle.link_faults.proofs.Tables.{taken_at}
-use Rattle.link_faults.proofs.Units.{get_or-itself, sections_below}
+use Rattle.mod_faults.specs.Tables.{AreTaken}
+use Rattle.mod_faults.proofs.Tables.{taken_at}
+use Rattle.mod_faults.proofs.Units.{get_or-itself, sections_below}
 use Rattle.mod_linker.specs.Linking.{is_among}
 use Rattle.mod_linker.specs.Modules.{module_texts, if_interface, section_texts}
 use Rattle.mod_linker.proofs.Among.{all-from, remapped-among}

@@ -17,8 +17,8 @@ use Rattle.goal_model.specs.Program.{Clause as ClauseOf}
 use Rattle.pl_store.specs.Linked.{Linked, with_clause}
 use Rattle.pl_store.specs.Rules.{IsExisting, HasArity, IsClauseOf}
 use Rattle.pl_store.specs.Facts.{IsLinked}
-use Rattle.link_program.specs.Saying.{Said, said_of, head_indicator, clause_in}
-use Rattle.link_faults.proofs.Units.{more_taken, AllBy-at}
+use Rattle.program_model.specs.Saying.{Said, said_of, head_indicator, clause_in}
+use Rattle.mod_faults.proofs.Units.{more_taken, AllBy-at}
 use Rattle.mod_linker.specs.declared.items.Item.{Item}
 use Rattle.mod_linker.specs.declared.key.Key.{Key}
 use Rattle.mod_linker.specs.Items.{item_view, items_view, IsNarrow, IsItem, AreItems}

@@ -13,9 +13,9 @@ use Rattle.search_model.specs.declared.rows.VisibleRow.{VisibleRow}
 use Rattle.link_model.specs.Rows.{Row}
 use Rattle.mod_visible.specs.Placing.{AllBelow}
 use Rattle.mod_visible.specs.Finding.{IsNamedRow, row_text}
-use Rattle.link_program.specs.Saying.{Said, said_by, head_indicator, is_its, clause_in, clauses_said, modes_in, modes_said}
-use Rattle.link_program.specs.Linking.{is_row, definer_in}
-use Rattle.link_faults.proofs.Tables.{text_there, number_there}
+use Rattle.program_model.specs.Saying.{Said, said_by, head_indicator, is_its, clause_in, clauses_said, modes_in, modes_said}
+use Rattle.program_model.specs.Linking.{is_row, definer_in}
+use Rattle.mod_faults.proofs.Tables.{text_there, number_there}
 use Rattle.mod_linker.specs.Holding.{SaidBelow}
 use Rattle.mod_linker.specs.Linking.{are_among}
 use Rattle.mod_linker.proofs.Among.{and_false, not-both}

@@ -11,7 +11,7 @@ use Rattle.pl_store.specs.Linked.{Linked, Procedure, Row, procedure_at, visible_
 use Rattle.pl_store.specs.Rules.{IsExisting}
 use Rattle.pl_store.specs.Runs.{number_of}
 use Rattle.pl_store.specs.declared.key.ProcId.{ProcId}
-use Rattle.link_faults.proofs.Units.{more_taken, AllBy-at}
+use Rattle.mod_faults.proofs.Units.{more_taken, AllBy-at}
 use Rattle.mod_linker.specs.declared.key.Key.{Key}
 use Rattle.mod_linker.specs.Keys.{ind_of, same_key, AreKnown}
 use Rattle.mod_linker.specs.Rowing.{Shown, ShowsMore}

@@ -4,7 +4,7 @@ use Rattle.std.specs.List.{flat_map, filter_map, list_any}
 use Rattle.pl_ops.specs.Tables.{same_text}
 use Rattle.unit_model.specs.Facts.{Indicator, Facts}
 use Rattle.unit_model.specs.Directives.{Text}
-use Rattle.preparing_model.specs.Known.{interfaces_of}
+use Rattle.unit_model.specs.Known.{interfaces_of}
 use Rattle.link_model.specs.Places.{same_ind, user, defining, Role, Placed, places_of}
 
 module _ {A : Type 0} (same : A → A → Bool) where

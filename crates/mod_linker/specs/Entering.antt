@@ -6,7 +6,7 @@ use Rattle.unit_model.specs.Facts.{Indicator}
 use Rattle.link_model.specs.Places.{role_of}
 use Rattle.pl_store.specs.Linked.{Linked, Procedure, same_indicator, procedure_at}
 use Rattle.pl_store.specs.Runs.{number_of, clauses_from}
-use Rattle.link_program.specs.Saying.{Said, clauses_said, modes_said}
+use Rattle.program_model.specs.Saying.{Said, clauses_said, modes_said}
 use Rattle.mod_linker.specs.declared.key.Key.{Key}
 use Rattle.mod_linker.specs.Keys.{same_key, AreKnown, AreDeclared}
 use Rattle.mod_linker.specs.Counting.{with_one, Defined, defined_in}

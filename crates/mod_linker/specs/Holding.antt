@@ -6,7 +6,7 @@ use Rattle.unit_model.specs.Facts.{Facts, what_names}
 use Rattle.unit_model.specs.Directives.{Text}
 use Rattle.unit_model.specs.Encoding.{text_at}
 use Rattle.link_model.specs.Seeing.{exists}
-use Rattle.link_program.specs.Saying.{Said, said_by, said}
+use Rattle.program_model.specs.Saying.{Said, said_by, said}
 use Rattle.mod_visible.specs.Placing.{AllBelow}
 use Rattle.pl_store.specs.Linked.{Linked, is_system, is_module}
 use Rattle.mod_linker.specs.declared.key.Key.{Key}

@@ -11,7 +11,7 @@ use Rattle.unit_model.specs.declared.facts.Section.{Section}
 use Rattle.unit_format.specs.Spelling.{IsPlace}
 use Rattle.unit_format.specs.Uses.{what_uses, entry_uses}
 use Rattle.mod_visible.specs.Placing.{AllBelow, ModesFit}
-use Rattle.link_program.specs.Saying.{Said, said_of, said_in}
+use Rattle.program_model.specs.Saying.{Said, said_of, said_in}
 use Rattle.mod_linker.specs.declared.items.Item.{Item}
 
 abbrev pub item_view : Item → Said ℕ

@@ -6,7 +6,7 @@ use Rattle.unit_model.specs.Facts.{Indicator}
 use Rattle.unit_model.specs.declared.facts.Ind.{Ind}
 use Rattle.pl_store.specs.Linked.{Linked}
 use Rattle.pl_store.specs.Runs.{number_of}
-use Rattle.link_program.specs.Saying.{Said, modes_said}
+use Rattle.program_model.specs.Saying.{Said, modes_said}
 use Rattle.mod_linker.specs.declared.key.Key.{Key}
 
 abbrev pub key : NameId → Ind → Key

@@ -10,7 +10,7 @@ use Rattle.naming_laws.specs.SameRun.{SaysSame}
 use Rattle.pl_store.specs.Linked.{Linked, with_names}
 use Rattle.pl_store.specs.Facts.{IsLinked}
 use Rattle.pl_store.specs.Runs.{program_of}
-use Rattle.link_program.specs.Linking.{program_of_facts}
+use Rattle.program_model.specs.Linking.{program_of_facts}
 use Rattle.mod_linker.specs.Counting.{linked_modules, linked_procedures}
 use Rattle.mod_linker.specs.declared.fault.LinkFault.{LinkFault}
 use Rattle.mod_linker.specs.declared.fault.LinkFault.TheVariants.{Fault as LinkFaultOf, NoMemory}

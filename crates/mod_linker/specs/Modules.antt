@@ -8,7 +8,7 @@ use Rattle.unit_model.specs.Encoding.{text_at}
 use Rattle.unit_model.specs.declared.facts.Section.{Section}
 use Rattle.unit_model.specs.declared.facts.SectionKind.{SectionKind}
 use Rattle.unit_model.specs.declared.facts.SectionKind.TheVariants.{Interface, Body}
-use Rattle.preparing_model.specs.Known.{interfaces_of}
+use Rattle.unit_model.specs.Known.{interfaces_of}
 use Rattle.pl_store.specs.Linked.{Linked, is_system, is_module}
 use Rattle.mod_linker.specs.Counting.{with_one}
 

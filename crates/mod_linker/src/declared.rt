@@ -4,7 +4,7 @@ ghost use Rattle.std.specs.List.{AllByRecursion};
 ghost use Rattle.std.specs.Map.{lookup};
 ghost use Rattle.std.specs.Option.{option_or};
 ghost use Rattle.unit_model.specs.Directives.{Text};
-ghost use Rattle.link_program.specs.Saying.{modes_in};
+ghost use Rattle.program_model.specs.Saying.{modes_in};
 ghost use Rattle.mod_linker.specs.declared.key.Key.{Key};
 ghost use Rattle.mod_linker.specs.Items.{item_view, items_view};
 ghost use Rattle.mod_linker.specs.Usable.{IsUsable};

@@ -4,12 +4,12 @@ ghost use Rattle.pl_atoms.specs.Names.{Remaps};
 ghost use Rattle.unit_model.specs.Directives.{Text};
 ghost use Rattle.unit_model.specs.Encoding.{text_at};
 ghost use Rattle.unit_format.specs.Views.{unit_facts};
-ghost use Rattle.link_program.specs.Saying.{said_by, said};
-ghost use Rattle.link_faults.specs.Tables.{AreTaken};
+ghost use Rattle.program_model.specs.Saying.{said_by, said};
+ghost use Rattle.mod_faults.specs.Tables.{AreTaken};
 ghost use Rattle.std.specs.List.{AllByRecursion};
 ghost use Rattle.mod_linker.specs.Items.{items_view, saids_of, IsSectionOf, AreItems};
 
-use link_faults::Table;
+use mod_faults::Table;
 use pl_atoms::{NameId, NoMemory, Remap};
 use std::alloc::Global;
 use unit_format::Unit;

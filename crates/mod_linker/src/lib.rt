@@ -17,6 +17,3 @@ mod terms;
 pub use fault::LinkFault;
 pub use laws::says_same_further;
 pub use linking::link;
-
-#[cfg(test)]
-mod tests;

@@ -3,7 +3,7 @@ ghost use Rattle.std.specs.Prelude.{◌≡◌, None, map, codes, true, IfOk, IfE
 ghost use Rattle.pl_atoms.specs.Names.{AreDistinct};
 ghost use Rattle.unit_format.specs.Views.{unit_facts};
 ghost use Rattle.link_model.specs.Faults.{first_link};
-ghost use Rattle.link_faults.specs.Tables.{AreTaken};
+ghost use Rattle.mod_faults.specs.Tables.{AreTaken};
 ghost use Rattle.mod_visible.specs.Visibility.{IsVisibility};
 ghost use Rattle.mod_linker.specs.Holding.{HasEntries};
 ghost use Rattle.mod_linker.specs.Linking.{is_among, IsFirst, IsLinkOf};
@@ -16,7 +16,7 @@ use crate::known::Known;
 use crate::modules::add_modules;
 use crate::naming::named;
 use crate::seeing::see_all;
-use link_faults::{Table, first_fault};
+use mod_faults::{Table, first_fault};
 use mod_visible::Visibility;
 use pl_atoms::{NoMemory, Remap};
 use pl_store::Program;

@@ -5,7 +5,7 @@ ghost use Rattle.unit_model.specs.Facts.{tree_names};
 ghost use Rattle.unit_model.specs.Validity.{is_head};
 ghost use Rattle.unit_model.specs.Views.{ind_view};
 ghost use Rattle.mod_visible.specs.Placing.{AllBelow};
-ghost use Rattle.link_program.specs.Saying.{head_indicator};
+ghost use Rattle.program_model.specs.Saying.{head_indicator};
 ghost use Rattle.mod_linker.specs.Cells.{mapped_cell, CellBelow, is_begun, begun};
 
 use pl_atoms::{NameId, NoMemory, Remap};

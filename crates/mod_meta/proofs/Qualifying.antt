@@ -1,11 +1,9 @@
 -- Laws of qualified arguments.
-use Rattle.std.proofs.Common.{◌≡◌, ◌∙◌, ◌≢◌, ℕ, zero, suc, ◌+◌, ◌<◌, ◌≤◌, List, [], ◌∷◌, ◌++◌, take, map, length, get_or, refl, ap, sym, subst, arith, Bool, true, false, codes, nat_eq, ◌&&◌, not, if◌then◌else◌}
-use Rattle.std.proofs.lemmas.List.{take_more, take_all, map-append}
-use Rattle.pl_atoms.specs.Names.{same_text}
+use Rattle.std.proofs.Common.{◌≡◌, ◌∙◌, ℕ, zero, suc, ◌+◌, ◌<◌, ◌≤◌, List, [], ◌∷◌, ◌++◌, take, map, length, get_or, refl, ap, sym, arith, Bool, true, false, codes, not, if◌then◌else◌}
+use Rattle.std.proofs.lemmas.List.{take_more, take_all}
 use Rattle.pl_atoms.specs.declared.names.NameId.{NameId}
 use Rattle.pl_terms.specs.Trees.{Tree, Trees, var, int, atom, comp, nil, cons, count}
 use Rattle.pl_unify.specs.declared.word.Ref.{Ref}
-use Rattle.pl_unify.specs.declared.word.View.{View}
 use Rattle.pl_unify.specs.declared.word.View.TheVariants as V
 use Rattle.pl_unify.specs.Shape.{root, arity, argument, nth_tree}
 use Rattle.pl_unify.specs.Prefix.{trees, listed}
@@ -13,7 +11,7 @@ use Rattle.pl_unify.specs.State.{State, tree_at, IsRef, Grows}
 use Rattle.pl_unify.specs.Making.{AreRefs}
 use Rattle.builtin_model.specs.Naming.{Naming}
 use Rattle.goal_model.specs.Environments.{is_qualified, in_context, qualified}
-use Rattle.mod_meta.specs.Qualified.{IsColon, qualified_goal, lacks_module, arguments_of, is_name}
+use Rattle.mod_meta.specs.Qualified.{qualified_goal, lacks_module, arguments_of}
 
 pub AreRefs-grown : (s new : State) (rs : List Ref) → Grows s new → AreRefs s rs → AreRefs new rs
 AreRefs-grown s new [] g h = tt

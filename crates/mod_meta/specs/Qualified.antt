@@ -1,7 +1,7 @@
 -- Goals of metapredicates (ISO/IEC 13211-2, 6.3).
 use Rattle.std.specs.Prelude.{◌≡◌, ℕ, List, codes, Bool, not, ◌&&◌, nat_eq, true, false}
 use Rattle.pl_atoms.specs.Names.{same_text}
-use Rattle.pl_terms.specs.Trees.{Tree, var, int, atom, comp, Trees, nil}
+use Rattle.pl_terms.specs.Trees.{Tree, comp, Trees, nil}
 use Rattle.pl_unify.specs.declared.word.View.{View}
 use Rattle.pl_unify.specs.declared.word.View.TheVariants.{Var, Int, Name, Comp}
 use Rattle.builtin_model.specs.Naming.{Naming}

@@ -8,6 +8,3 @@ mod modes;
 pub use goals::qualify;
 pub use laws::colon_law;
 pub use modes::{Modes, ModesFault};
-
-#[cfg(test)]
-mod tests;

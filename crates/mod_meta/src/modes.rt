@@ -3,11 +3,11 @@ ghost use Rattle.std.specs.Prelude.{◌≡◌, ◌<◌, length, None, Some, fals
 ghost use Rattle.pl_terms.specs.Order.{texts_of};
 ghost use Rattle.unit_model.specs.Directives.{mode_term_in};
 
-use directive_forms::{ModeTerm, Walk, mode_term};
 use pl_atoms::{Names, NoMemory};
 use pl_terms::Term;
 use std::alloc::Global;
 use std::marker::Model;
+use term_walk::{ModeTerm, Walk, mode_term};
 use thiserror::Error;
 use unit_model::ModeList;
 

@@ -17,7 +17,7 @@ use Rattle.unit_model.specs.declared.facts.SectionKind.TheVariants.{Interface as
 use Rattle.unit_model.specs.declared.facts.Section.{Section}
 use Rattle.unit_format.specs.Views.{unit_facts}
 use Rattle.unit_format.specs.declared.unit.Unit.{Unit as ReadUnit}
-use Rattle.preparing_model.specs.Known.{interface_of, interfaces_of}
+use Rattle.unit_model.specs.Known.{interface_of, interfaces_of}
 use Rattle.link_model.specs.Places.{user, system}
 use Rattle.mod_visible.specs.Existing.{interface_name, interface_names, unit_interfaces, always}
 use Rattle.mod_visible.specs.Visibility.{AreModules}

@@ -9,7 +9,7 @@ use Rattle.unit_model.specs.Views.{entry_view, entries_view, section_view}
 use Rattle.unit_model.specs.declared.facts.Entry.{Entry}
 use Rattle.unit_model.specs.declared.facts.Section.{Section}
 use Rattle.mod_visible.specs.declared.placed.Placed.{Placed}
-use Rattle.link_model.specs.Places.{Placed as PlacedOf, defined_by, place_of, places_in, places_from, places_of}
+use Rattle.link_model.specs.Places.{Placed as PlacedOf, defined_by, place_of, places_in, places_from}
 use Rattle.mod_visible.specs.Placing.{begun_by, AllBelow, BeginsBelow, placed_view, places_view}
 
 pub count-all_renamed : {N M : Type 0} (f : N → M) (ts : Trees N) → count (all_renamed f ts) ≡ count ts

@@ -21,6 +21,3 @@ pub use clash::Clash;
 pub use flat::{Flat, flattened};
 pub use placed::{Placed, Role};
 pub use visibility::Visibility;
-
-#[cfg(test)]
-mod tests;

@@ -7,7 +7,7 @@ use Rattle.pl_terms.specs.Trees.{Tree, Trees, var, int, atom, comp, nil, cons, c
 use Rattle.value_model.specs.declared.EvalFault.{EvalFault}
 use Rattle.value_model.specs.declared.EvalFault.TheVariants as V
 use Rattle.unit_model.specs.Directives.{is_control}
-use Rattle.search_theory.specs.Search.{Call}
+use Rattle.solver_model.specs.Search.{Call}
 use Rattle.builtin_model.specs.declared.error.Expected.{Expected}
 use Rattle.builtin_model.specs.declared.error.Expected.TheVariants as E
 use Rattle.builtin_model.specs.declared.error.Domain.{Domain}

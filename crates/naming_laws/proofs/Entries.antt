@@ -4,7 +4,7 @@ use Rattle.std.specs.Prelude.{option_map}
 use Rattle.std.specs.List.{All}
 use Rattle.pl_terms.specs.Trees.{Tree, Trees, var, int, atom, comp, nil, cons, renamed, all_renamed}
 use Rattle.pl_terms.specs.NameBounds.{NamesBelow, AllNamesBelow}
-use Rattle.search_theory.specs.Search.{Event, Out, Ans, End, Failed, CutTo, Thrown, Halted, Spent}
+use Rattle.solver_model.specs.Search.{Event, Out, Ans, End, Failed, CutTo, Thrown, Halted, Spent}
 use Rattle.goal_model.specs.Program.{Clause}
 use Rattle.naming_laws.specs.Translation.{clause_by}
 use Rattle.naming_laws.specs.SameRun.{event_by, end_by}

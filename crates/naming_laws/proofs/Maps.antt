@@ -1,7 +1,7 @@
 -- What a run has, with other names.
 use Rattle.std.proofs.Common.{List, map, Result, Ok, Err}
 use Rattle.pl_terms.specs.Trees.{Tree, renamed, all_renamed}
-use Rattle.search_theory.specs.Search.{Item, Point, Frame, Call, Cut, Pop, Fail, At, Over, Tries, Catches, Collects, Ends, Opens}
+use Rattle.solver_model.specs.Search.{Item, Point, Frame, Call, Cut, Pop, Fail, At, Over, Tries, Catches, Collects, Ends, Opens}
 use Rattle.goal_model.specs.Environments.{Environment}
 use Rattle.goal_model.specs.Bodies.{Goal}
 use Rattle.goal_model.specs.Rows.{Row, commit, if_then_else, if_then, either, negation, once, calling, in_module, from_context, repeat, throwing, catching, collecting, plain, user}

@@ -3,10 +3,10 @@ use Rattle.std.proofs.Common.{◌≡◌, ◌∙◌, ℕ, ◌+◌, List, [], ◌�
 use Rattle.std.specs.Prelude.{option_map}
 use Rattle.pl_terms.specs.Trees.{Tree, renamed}
 use Rattle.unit_model.specs.Facts.{Indicator, indicator_by}
-use Rattle.run_model.specs.Substitution.{raise}
-use Rattle.run_model.specs.Mgu.{unifier}
-use Rattle.search_theory.specs.Search.{Event, End, Point, Frame, Call, Cut, Pop, Fail, Out, Ans, Failed, CutTo, Thrown, Halted, Spent, At, Over, Tries, Catches, Collects, Ends, Opens, pops}
-use Rattle.search_theory.proofs.Simulation.{RList, REvent, REnd, RItems, RState, RPoint, RAttempt, RRecover, RFrame, RActivation, Keeps}
+use Rattle.unifier_model.specs.Substitution.{raise}
+use Rattle.unifier_model.specs.Mgu.{unifier}
+use Rattle.solver_model.specs.Search.{Event, End, Point, Frame, Call, Cut, Pop, Fail, Out, Ans, Failed, CutTo, Thrown, Halted, Spent, At, Over, Tries, Catches, Collects, Ends, Opens, pops}
+use Rattle.solver_model.proofs.Simulation.{RList, REvent, REnd, RItems, RState, RPoint, RAttempt, RRecover, RFrame, RActivation, Keeps}
 use Rattle.builtin_model.specs.Naming.{Naming}
 use Rattle.goal_model.specs.Program.{Clause, Clauses, Program}
 use Rattle.goal_model.specs.Bodies.{Goal}

@@ -2,8 +2,8 @@
 use Rattle.std.proofs.Common.{◌≡◌, ◌∙◌, ℕ, List, [], map, length, codes, Result, Ok, Err, refl, ap, sym, subst}
 use Rattle.pl_terms.specs.Trees.{Tree, var, renamed}
 use Rattle.pl_terms.specs.Occurrence.{variables, from_to}
-use Rattle.search_theory.specs.Search.{Point, Thrown, At, Over}
-use Rattle.search_theory.proofs.Simulation.{value-related}
+use Rattle.solver_model.specs.Search.{Point, Thrown, At, Over}
+use Rattle.solver_model.proofs.Simulation.{value-related}
 use Rattle.builtin_model.specs.Naming.{Naming}
 use Rattle.builtin_model.proofs.TextLaw.{variables-renamed, canon-renamed, vars-renamed}
 use Rattle.goal_model.specs.Bodies.{Goal, goal_of, flat}

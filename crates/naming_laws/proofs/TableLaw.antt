@@ -6,9 +6,9 @@ use Rattle.pl_atoms.specs.Names.{same_text}
 use Rattle.pl_terms.specs.Trees.{Tree, Trees, var, int, atom, comp, nil, cons, count, renamed, all_renamed}
 use Rattle.pl_terms.specs.Occurrence.{canon}
 use Rattle.unit_model.specs.Facts.{Indicator, indicator_by}
-use Rattle.run_model.specs.Substitution.{apply, raise}
-use Rattle.run_model.specs.Mgu.{unifier}
-use Rattle.search_theory.specs.Search.{Item, Point, Call, Cut, Pop, Fail, Failed, Thrown, Halted, At, Over, Tries, Catches, Collects, Ends, Opens, pops}
+use Rattle.unifier_model.specs.Substitution.{apply, raise}
+use Rattle.unifier_model.specs.Mgu.{unifier}
+use Rattle.solver_model.specs.Search.{Item, Point, Call, Cut, Pop, Fail, Failed, Thrown, Halted, At, Over, Tries, Catches, Collects, Ends, Opens, pops}
 use Rattle.builtin_model.specs.Naming.{Naming}
 use Rattle.builtin_model.specs.Faults.{instantiation, type_fault, fault_tree}
 use Rattle.builtin_model.specs.declared.error.Expected.TheVariants as E
@@ -41,7 +41,7 @@ module _ {N M : Type 0} (f : N → M) where
 
   apply-by : (bs : Replacements N) (t : Tree N) → apply (by_bindings bs) (renamed f t) ≡ renamed f (apply bs t)
   apply-by [] t = refl
-  apply-by (b ∷ bs) t = ap (apply (by_bindings bs)) (replace-renamed f b.0 b.1 t) ∙ apply-by bs (Rattle.run_model.specs.Substitution.replace b.0 b.1 t)
+  apply-by (b ∷ bs) t = ap (apply (by_bindings bs)) (replace-renamed f b.0 b.1 t) ∙ apply-by bs (Rattle.unifier_model.specs.Substitution.replace b.0 b.1 t)
 
   applies-by : (bs : Replacements N) (ts : List (Tree N)) → map (apply (by_bindings bs)) (map (renamed f) ts) ≡ map (renamed f) (map (apply bs) ts)
   applies-by bs [] = refl

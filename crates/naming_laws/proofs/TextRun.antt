@@ -10,7 +10,7 @@ use Rattle.pl_terms.specs.Trees.{Tree}
 use Rattle.pl_terms.specs.Order.{text_of, texts_of}
 use Rattle.pl_terms.specs.NameBounds.{NamesBelow}
 use Rattle.unit_model.specs.Facts.{Indicator, indicator_by}
-use Rattle.search_theory.specs.Search.{Outcome}
+use Rattle.solver_model.specs.Search.{Outcome}
 use Rattle.builtin_model.specs.Naming.{Naming, number_in, by_texts, by_numbers}
 use Rattle.goal_model.specs.Program.{Clauses, Program}
 use Rattle.goal_model.specs.NameLaws.{SameNames}

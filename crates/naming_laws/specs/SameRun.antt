@@ -6,7 +6,7 @@ use Rattle.pl_terms.specs.Trees.{Tree, renamed}
 use Rattle.pl_terms.specs.Order.{text_of, texts_of}
 use Rattle.pl_terms.specs.NameBounds.{NamesBelow}
 use Rattle.unit_model.specs.Facts.{Indicator, indicator_by}
-use Rattle.search_theory.specs.Search.{Event, Out, Ans, End, Failed, CutTo, Thrown, Halted, Spent, Outcome}
+use Rattle.solver_model.specs.Search.{Event, Out, Ans, End, Failed, CutTo, Thrown, Halted, Spent, Outcome}
 use Rattle.builtin_model.specs.Naming.{Naming, number_in, by_texts, by_numbers}
 use Rattle.goal_model.specs.Program.{Clause, Clauses, Program}
 use Rattle.goal_model.specs.NameLaws.{SameNames}

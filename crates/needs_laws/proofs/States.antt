@@ -2,7 +2,7 @@
 use Rattle.std.proofs.Common.{◌≡◌, List, ◌++◌, true, Option, None, Ok, Err, MatchOption}
 use Rattle.std.specs.List.{filter_map}
 use Rattle.unit_model.specs.Preparing.{Interface, Opened, State, Next, operators_known, is_interface}
-use Rattle.preparing_model.specs.Known.{interface_of}
+use Rattle.unit_model.specs.Known.{interface_of}
 use Rattle.link_model.specs.Texts.{AllNew}
 use Rattle.needs_laws.proofs.Known.{names, AreKnown}
 

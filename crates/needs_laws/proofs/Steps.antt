@@ -10,7 +10,7 @@ use Rattle.pl_ops.specs.Standard.{standard}
 use Rattle.unit_model.specs.Facts.{OperatorOf, Need, Entry, What, SectionKind, interface, body, Section}
 use Rattle.unit_model.specs.Directives.{Text, Directive, opens, closes, exporting, reexporting, metapredicates, operators, importing, discontiguous}
 use Rattle.unit_model.specs.Preparing.{Interface, Opened, State, Next, table_in, operators_known, holds, with_need, with_operators, in_interface, open_section, is_reserved, open_interface, open_body, open_named, opened, operators_of, close_section, closes_this, closed, declaration, Said, Saying, Sort, a_directive, a_query, a_clause, sort_of, sort_said, Source, no_module, passing, taking, source_of, told, taken, sourced, with_said, directive_step, sort_step, step}
-use Rattle.preparing_model.specs.Known.{interface_of}
+use Rattle.unit_model.specs.Known.{interface_of}
 use Rattle.preparing_laws.proofs.Lists.{all-append}
 use Rattle.link_model.specs.Texts.{AllNew}
 use Rattle.needs_laws.proofs.Known.{names, known-own, known-before, new-join, new-parts, need-same, known-parts}

@@ -5,8 +5,8 @@ use Rattle.std.specs.Result.{result_ok}
 use Rattle.pl_atoms.specs.declared.names.NameId.{NameId}
 use Rattle.pl_terms.specs.Trees.{Tree, Trees, var, int, atom, comp, nil, cons, count}
 use Rattle.pl_terms.specs.Order.{text_of}
-use Rattle.run_model.specs.Substitution.{apply, raise}
-use Rattle.run_model.proofs.Replaced.{apply-int, apply-comp, apply_all-none, apply_all-tree}
+use Rattle.unifier_model.specs.Substitution.{apply, raise}
+use Rattle.unifier_model.proofs.Replaced.{apply-int, apply-comp, apply_all-none, apply_all-tree}
 use Rattle.pl_unify.specs.declared.word.View.TheVariants as V
 use Rattle.pl_unify.specs.declared.code.CodeWord.{CodeWord}
 use Rattle.pl_unify.specs.Shape.{root, arity, argument, nth_tree}

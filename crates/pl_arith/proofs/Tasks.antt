@@ -3,7 +3,7 @@ use Rattle.std.proofs.Common.{◌≡◌, ◌∙◌, ℕ, ℤ, ◌<◌, List, [],
 use Rattle.std.proofs.lemmas.List.{reverse-append}
 use Rattle.pl_atoms.specs.declared.names.NameId.{NameId}
 use Rattle.pl_terms.specs.Trees.{Tree, Trees, var, int, atom, comp, nil, cons, count}
-use Rattle.run_model.specs.Substitution.{size}
+use Rattle.unifier_model.specs.Substitution.{size}
 use Rattle.pl_unify.specs.declared.word.Ref.{Ref}
 use Rattle.pl_unify.specs.declared.word.View.TheVariants as V
 use Rattle.pl_unify.specs.Shape.{root, argument, arity}

@@ -1,6 +1,6 @@
 -- What is still to be done of an expression, the next task first, over the numbers that are there, the last first.
 use Rattle.std.specs.Prelude.{◌≡◌, ℕ, zero, suc, ℤ, ◌+◌, ◌*◌, ◌<◌, List, [], ◌∷◌, length, Result, Ok, Err}
-use Rattle.run_model.specs.Substitution.{size}
+use Rattle.unifier_model.specs.Substitution.{size}
 use Rattle.pl_unify.specs.State.{State, tree_at, IsRef}
 use Rattle.value_model.specs.declared.EvalFault.{EvalFault}
 use Rattle.value_model.specs.declared.EvalFault.TheVariants.{NoMemory}

@@ -12,6 +12,3 @@ mod number;
 pub use expression::evaluate;
 pub use in_code::value_in_code;
 pub use value_model::EvalFault;
-
-#[cfg(test)]
-mod tests;

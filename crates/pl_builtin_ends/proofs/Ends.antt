@@ -4,13 +4,13 @@ use Rattle.std.specs.Prelude.{IfOk, OnErr}
 use Rattle.std.proofs.lemmas.List.{append_assoc, append-nil}
 use Rattle.pl_atoms.specs.declared.memory.NoMemory.{NoMemory}
 use Rattle.pl_terms.specs.Trees.{Tree}
-use Rattle.run_model.specs.Substitution.{apply}
-use Rattle.run_model.specs.Mgu.{mgu}
-use Rattle.run_model.specs.Unifier.{Solved}
-use Rattle.run_model.specs.Unifier.Solved.{solved}
-use Rattle.run_model.proofs.MguProofs.{Solved-mgu}
-use Rattle.run_model.proofs.Only.{mgu-Solved}
-use Rattle.run_model.proofs.Replaced.{apply-append}
+use Rattle.unifier_model.specs.Substitution.{apply}
+use Rattle.unifier_model.specs.Mgu.{mgu}
+use Rattle.unifier_model.specs.Unifier.{Solved}
+use Rattle.unifier_model.specs.Unifier.Solved.{solved}
+use Rattle.unifier_model.proofs.MguProofs.{Solved-mgu}
+use Rattle.unifier_model.proofs.Only.{mgu-Solved}
+use Rattle.unifier_model.proofs.Replaced.{apply-append}
 use Rattle.pl_unify.specs.declared.store.Mark.{Mark}
 use Rattle.pl_unify.specs.declared.word.Ref.{Ref}
 use Rattle.pl_unify.specs.State.{State, tree_at, IsRef, bound, Grows, Extends, IsMark, state_at}

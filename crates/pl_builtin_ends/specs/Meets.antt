@@ -1,8 +1,8 @@
 -- When the end of a built-in predicate is what it is said to do.
 use Rattle.std.specs.Prelude.{◌≡◌, ℕ, ◌+◌, List, [], ◌∷◌, ◌++◌, Some, None}
 use Rattle.pl_terms.specs.Trees.{Tree}
-use Rattle.run_model.specs.Substitution.{apply}
-use Rattle.run_model.specs.Mgu.{mgu}
+use Rattle.unifier_model.specs.Substitution.{apply}
+use Rattle.unifier_model.specs.Mgu.{mgu}
 use Rattle.pl_unify.specs.declared.word.Ref.{Ref}
 use Rattle.pl_unify.specs.State.{State, tree_at, tree_of_var, IsRef, Extends, bound}
 use Rattle.builtin_model.specs.Faults.{Fault, instantiation, type_fault, domain_fault, max_arity, not_evaluable, evaluation}

@@ -1,8 +1,8 @@
 -- Variables that a store does not have yet.
 use Rattle.std.proofs.Common.{◌≡◌, ◌∙◌, ℕ, suc, ◌+◌, ◌<◌, ◌≤◌, List, [], ◌∷◌, length, get_or, nat_eq, false, refl, ap, arith}
 use Rattle.pl_terms.specs.Trees.{Tree, Trees, var, int, atom, comp, nil, cons}
-use Rattle.run_model.specs.Substitution.{apply, apply_all, raise, raise_all}
-use Rattle.run_model.proofs.Replaced.{apply-int, apply-atom, apply-comp, apply_all-none, apply_all-tree}
+use Rattle.unifier_model.specs.Substitution.{apply, apply_all, raise, raise_all}
+use Rattle.unifier_model.proofs.Replaced.{apply-int, apply-atom, apply-comp, apply_all-none, apply_all-tree}
 use Rattle.pl_unify.specs.Words.{Link, no_link, place_of}
 use Rattle.pl_unify.specs.State.{State, IsStore, bound, base}
 use Rattle.pl_unify.proofs.Linked.{apply-free}

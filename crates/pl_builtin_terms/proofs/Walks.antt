@@ -3,7 +3,7 @@ use Rattle.std.proofs.Common.{◌≡◌, ◌∙◌, ℕ, zero, suc, ◌+◌, ◌
 use Rattle.std.proofs.lemmas.List.{append_assoc, reverse-append}
 use Rattle.pl_terms.specs.Trees.{Tree, Trees, var, int, atom, comp, nil, cons, count, back}
 use Rattle.pl_terms.specs.Occurrence.{occurrences, all_occurrences}
-use Rattle.run_model.specs.Substitution.{size, sizes}
+use Rattle.unifier_model.specs.Substitution.{size, sizes}
 use Rattle.pl_unify.specs.declared.word.Ref.{Ref}
 use Rattle.pl_unify.specs.declared.word.View.TheVariants as V
 use Rattle.pl_unify.specs.Shape.{root, arity, argument, nth_tree}

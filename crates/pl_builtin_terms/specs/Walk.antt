@@ -2,7 +2,7 @@
 use Rattle.std.specs.Prelude.{◌≡◌, ℕ, ◌+◌, ◌<◌, List, [], ◌∷◌, ◌++◌, Option, Some, None}
 use Rattle.pl_terms.specs.Trees.{Tree, Trees, var, int, atom, comp, nil, back}
 use Rattle.pl_terms.specs.Occurrence.{occurrences, all_occurrences}
-use Rattle.run_model.specs.Substitution.{size, sizes}
+use Rattle.unifier_model.specs.Substitution.{size, sizes}
 use Rattle.pl_unify.specs.declared.word.Ref.{Ref}
 use Rattle.pl_unify.specs.State.{State, tree_at, IsRef}
 use Rattle.pl_unify.specs.Making.{AreRefs}

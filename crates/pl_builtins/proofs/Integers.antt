@@ -1,10 +1,10 @@
 -- A term of code unified with an integer.
 use Rattle.std.proofs.Common.{◌≡◌, ◌∙◌, ℕ, ℤ, Bool, true, false, List, [], ◌∷◌, Some, None, ap, subst, arith, MatchBool}
 use Rattle.pl_terms.specs.Trees.{Tree, int}
-use Rattle.run_model.specs.Mgu.{mgu}
-use Rattle.run_model.specs.Unifier.{Solved}
-use Rattle.run_model.proofs.Only.{mgu-Solved}
-use Rattle.run_model.proofs.Replaced.{apply-int}
+use Rattle.unifier_model.specs.Mgu.{mgu}
+use Rattle.unifier_model.specs.Unifier.{Solved}
+use Rattle.unifier_model.proofs.Only.{mgu-Solved}
+use Rattle.unifier_model.proofs.Replaced.{apply-int}
 use Rattle.pl_unify.specs.declared.word.Word.{Word}
 use Rattle.pl_unify.specs.declared.word.Word.TheVariants as W
 use Rattle.pl_unify.specs.State.{State, Grows, bound, tree_of_word}

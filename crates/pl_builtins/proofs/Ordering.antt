@@ -6,7 +6,7 @@ use Rattle.std.specs.Ordering.{nat_cmp, int_cmp, ordering_then}
 use Rattle.pl_terms.specs.Trees.{Tree, Trees, var, int, atom, comp, nil, cons, count}
 use Rattle.pl_terms.specs.Order.{tree_cmp, trees_cmp}
 use Rattle.pl_terms.specs.CellOrder.{name_cmp}
-use Rattle.run_model.specs.Substitution.{size, sizes}
+use Rattle.unifier_model.specs.Substitution.{size, sizes}
 use Rattle.pl_unify.specs.declared.word.Ref.{Ref}
 use Rattle.pl_unify.specs.Shape.{root, argument, arity, nth_tree}
 use Rattle.pl_unify.specs.State.{State, tree_at, IsRef}

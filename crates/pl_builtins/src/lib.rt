@@ -19,6 +19,3 @@ pub use pl_builtin_ends::{Done, Raised, add_names};
 pub use row_table::row_of;
 pub use unification::unify_code_int;
 pub use value::holds;
-
-#[cfg(test)]
-mod tests;

@@ -5,26 +5,26 @@ use Rattle.pl_terms.specs.Trees.{Tree}
 use Rattle.pl_unify.specs.declared.word.Ref.{Ref}
 use Rattle.pl_unify.specs.declared.store.Mark.{Mark}
 use Rattle.pl_unify.specs.State.{State, Extends, state_at}
-use Rattle.search_theory.specs.Search.{Event, Ans, Over, Failed, Language, FrameOf}
-use Rattle.search_theory.specs.Frames.{emit, heard}
-use Rattle.search_theory.specs.Configurations.{Tells}
-use Rattle.search_theory.proofs.TellLaws.{tell_answer}
-use Rattle.goal_frames.specs.declared.frames.Frame.{Frame}
-use Rattle.goal_frames.specs.Frames.{env_of}
+use Rattle.solver_model.specs.Search.{Event, Ans, Over, Failed, Language, FrameOf}
+use Rattle.solver_model.specs.Frames.{emit, heard}
+use Rattle.solver_model.specs.Configurations.{Tells}
+use Rattle.solver_model.proofs.TellLaws.{tell_answer}
+use Rattle.goal_state.specs.declared.frames.Frame.{Frame}
+use Rattle.goal_state.specs.Frames.{env_of}
 use Rattle.pl_store.specs.Linked.{Linked}
 use Rattle.pl_store.specs.Runs.{program_of}
-use Rattle.goal_records.specs.declared.choice.Choice.{Choice}
-use Rattle.goal_records.specs.declared.choice.ChoiceKind.{ChoiceKind}
-use Rattle.goal_records.specs.declared.choice.ChoiceKind.TheVariants.{Clauses, Branch, Catch, Collect}
-use Rattle.goal_records.specs.declared.library.Library.{Library}
-use Rattle.goal_records.specs.declared.path.Path.{Path}
-use Rattle.goal_records.specs.Denotation.{linked, language_of, state_of, answers_of, template_of, world_here, frames_on, frames_by, frame_from, rest_items, setting_at, outer_of, outer_answers, first, search_at}
-use Rattle.goal_records.specs.Well.{Stand, KindFits, IsWell, mark_of}
-use Rattle.goal_records.proofs.PathLaws.{grown_frames_on}
+use Rattle.goal_state.specs.declared.choice.Choice.{Choice}
+use Rattle.goal_state.specs.declared.choice.ChoiceKind.{ChoiceKind}
+use Rattle.goal_state.specs.declared.choice.ChoiceKind.TheVariants.{Clauses, Branch, Catch, Collect}
+use Rattle.goal_state.specs.declared.compiled.CompiledProgram.{CompiledProgram}
+use Rattle.goal_state.specs.declared.path.Path.{Path}
+use Rattle.goal_state.specs.Denotation.{linked, language_of, state_of, answers_of, template_of, world_here, frames_on, frames_by, frame_from, rest_items, setting_at, outer_of, outer_answers, first, search_at}
+use Rattle.goal_state.specs.Well.{Stand, KindFits, IsWell, mark_of}
+use Rattle.goal_state.proofs.PathLaws.{grown_frames_on}
 use Rattle.goal_moves.specs.Moves.{answering}
 
 -- where no term is collected no record is of a nested search: an answer is heard outside, and changes no record
-module _ (b : Library) (v : ℕ) (s : State) (frames : List Frame) (event : List (Event (List (Tree ℕ)))) where
+module _ (b : CompiledProgram) (v : ℕ) (s : State) (frames : List Frame) (event : List (Event (List (Tree ℕ)))) where
   abbrev framed : Choice → Option Ref → List (List (Tree ℕ)) → ChoiceKind → FrameOf (language_of b)
   framed c t gs k = frame_from b v k c.depth (state_at c.mark s) (rest_items b v s frames c) (env_of (setting_at frames c.rest)) t (first gs)
 
@@ -45,7 +45,7 @@ module _ (b : Library) (v : ℕ) (s : State) (frames : List Frame) (event : List
       by (Catch name catcher recovery) ih fits h = let i = ih h in (ap (λ fs. framed c t gs (Catch name catcher recovery) ∷ fs) i.0, i.1)
       by (Collect list outer) ih fits h = let some : is_some t ≡ true = fits.1 in cc
 
-module _ (b : Library) (p q : Path) (well : IsWell b p) (none : p.template ≡ None) (others : q ≡ record p { store = q.store }) (more : Extends (state_of p) (state_of q)) where
+module _ (b : CompiledProgram) (p q : Path) (well : IsWell b p) (none : p.template ≡ None) (others : q ≡ record p { store = q.store }) (more : Extends (state_of p) (state_of q)) where
   abbrev answer : List (Tree ℕ)
   answer = template_of (state_of p) p.width None
 

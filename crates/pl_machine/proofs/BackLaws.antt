@@ -1,12 +1,12 @@
 -- Machines that go back to the node of their last record.
 use Rattle.std.proofs.Common.{◌≡◌, ℕ, ◌+◌, ◌∷◌, refl, sym, ap, ◌∙◌, subst, length, reverse, take}
 use Rattle.pl_unify.specs.State.{state_at}
-use Rattle.goal_records.specs.declared.choice.Choice.{Choice}
-use Rattle.goal_records.specs.declared.library.Library.{Library}
-use Rattle.goal_records.specs.declared.path.Path.{Path}
-use Rattle.goal_records.specs.Denotation.{state_of, answers_of, outer_of, outer_answers}
-use Rattle.goal_records.specs.Well.{IsLibrary, IsWellWith, collects}
-use Rattle.goal_records.proofs.BackLaws.{back_well, outer_count, answers_count}
+use Rattle.goal_state.specs.declared.choice.Choice.{Choice}
+use Rattle.goal_state.specs.declared.compiled.CompiledProgram.{CompiledProgram}
+use Rattle.goal_state.specs.declared.path.Path.{Path}
+use Rattle.goal_state.specs.Denotation.{state_of, answers_of, outer_of, outer_answers}
+use Rattle.goal_state.specs.Well.{IsCompiled, IsWellWith, collects}
+use Rattle.goal_state.proofs.BackLaws.{back_well, outer_count, answers_count}
 use Rattle.pl_machine.specs.declared.machine.Machine.{Machine}
 use Rattle.pl_machine.specs.Inside.{IsInside, WentBack}
 use Rattle.pl_machine.proofs.RoomLaws.{records_well}
@@ -23,7 +23,7 @@ pub record Steps (p popped back left : Path) (c : Choice) : Type 0 where
   pub others : left ≡ record back { template = left.template; gathered = left.gathered }
 
 -- the record stands on the path that it was taken off
-pub popped_well : (b : Library) (p q : Path) (c : Choice) (d : ℕ) → reverse p.choices.items ≡ c ∷ reverse q.choices.items → q ≡ record p { choices = q.choices } → IsWellWith b p (reverse p.choices.items) d → IsWellWith b q (c ∷ reverse q.choices.items) d
+pub popped_well : (b : CompiledProgram) (p q : Path) (c : Choice) (d : ℕ) → reverse p.choices.items ≡ c ∷ reverse q.choices.items → q ≡ record p { choices = q.choices } → IsWellWith b p (reverse p.choices.items) d → IsWellWith b q (c ∷ reverse q.choices.items) d
 popped_well b p q c d last pop w = records_well b p q pop (c ∷ reverse q.choices.items) d (subst (λ cs. IsWellWith b p cs d) last w)
 
 module _ (p popped back left : Path) (c : Choice) (h : Steps p popped back left c) where
@@ -49,7 +49,7 @@ module _ (p popped back left : Path) (c : Choice) (h : Steps p popped back left 
       ∙ ap (λ f. record p { store = left.store; frames = f; choices = popped.choices; gathered = left.gathered; template = left.template }) (sym frames_same)
       ∙ ap (λ k. record p { store = left.store; frames = left.frames; choices = k; gathered = left.gathered; template = left.template }) (sym choices_same)
 
-  pub node_well : (b : Library) (d : ℕ) → IsWellWith b p (reverse p.choices.items) d → IsWellWith b left (reverse left.choices.items) c.depth
+  pub node_well : (b : CompiledProgram) (d : ℕ) → IsWellWith b p (reverse p.choices.items) d → IsWellWith b left (reverse left.choices.items) c.depth
   node_well b d well =
       let w : IsWellWith b popped (c ∷ reverse popped.choices.items) d = popped_well b p popped c d h.last h.pop well in
       let kind : left ≡ record back { template = outer_of c.kind popped.template; gathered = left.gathered } =
@@ -76,11 +76,11 @@ module _ (m : Machine) (popped back left : Path) (c : Choice) (h : Steps m.path 
     others = ap (λ (r : Path). record m { path = record r { depth = c.depth + 1 } }) (whole m.path popped back left c h);
   }
 
-  pub back_inside : (d : ℕ) → IsLibrary m.library → IsWellWith m.library m.path (reverse m.path.choices.items) d → IsInside there c.depth
-  back_inside d library well =
-      let w = node_well m.path popped back left c h m.library d well in
+  pub back_inside : (d : ℕ) → IsCompiled m.compiled → IsWellWith m.compiled m.path (reverse m.path.choices.items) d → IsInside there c.depth
+  back_inside d compiled well =
+      let w = node_well m.path popped back left c h m.compiled d well in
       record {
-        library = library;
+        compiled = compiled;
         well = record { store = w.store; frames = w.frames; template = w.template; wide = w.wide; records = w.records; gathered = w.gathered };
         depth = refl;
       }

@@ -6,7 +6,7 @@ use Rattle.std.proofs.lemmas.List.{nil_from_length}
 use Rattle.std.proofs.lemmas.List.Elements.{filter-append}
 use Rattle.std.specs.Io.KnownBytes.{Appends}
 use Rattle.pl_terms.specs.Trees.{Tree}
-use Rattle.search_theory.specs.Search.{Event}
+use Rattle.solver_model.specs.Search.{Event}
 use Rattle.plm_io.specs.Causes.{AppendsFront}
 use Rattle.plm_io.proofs.FrontLaws.{Appends_nothing, Appends-append}
 use Rattle.pl_machine.specs.declared.machine.Machine.{Machine}

@@ -1,8 +1,8 @@
 -- What a move does whatever the number of steps left.
 use Rattle.std.proofs.Common.{◌≡◌, ℕ, ◌+◌, ◌<◌, List, [], ◌∷◌, refl, ap, ◌∙◌, subst, arith, length, length-append}
 use Rattle.goal_model.specs.Table.{shown}
-use Rattle.goal_frames.specs.Frames.{IsLinked}
-use Rattle.goal_records.specs.Well.{IsLibrary}
+use Rattle.goal_state.specs.Frames.{IsLinked}
+use Rattle.goal_state.specs.Well.{IsCompiled}
 use Rattle.goal_moves.specs.declared.standing.Stand.{Stand}
 use Rattle.pl_machine.specs.declared.machine.Machine.{Machine}
 use Rattle.pl_machine.specs.declared.moves.Part.TheVariants as P
@@ -37,7 +37,7 @@ shown_one (b ∷ bytes) some = refl
 module _ (old mid new : Machine) (before text after : List ℕ) (stand : Stand)
     (d : (left : ℕ) → Does (Remains (with_left old left)) (with_left old left) (with_left mid left) before text (P.Waits stand))
     (a : (left : ℕ) → Acted (with_left mid (left + 1)) stand (with_left new left) text after)
-    (library : IsLibrary mid.library) (linked : IsLinked mid.path.frames) (first : IsFirst mid.library mid.path stand)
+    (compiled : IsCompiled mid.compiled) (linked : IsLinked mid.path.frames) (first : IsFirst mid.compiled mid.path stand)
     (same : mid.left ≡ old.left) (one : new.left + 1 ≡ mid.left) where
   acts : (left : ℕ) → Acted (with_left mid (1 + left)) stand (with_left new left) text after
   acts left = let next : left + 1 ≡ 1 + left = omega arith in subst (λ k. Acted (with_left mid k) stand (with_left new left) text after) next (a left)
@@ -46,7 +46,7 @@ module _ (old mid new : Machine) (before text after : List ℕ) (stand : Stand)
   none_shown : (left : ℕ) → left < 1 → (r : Outcomes) → Remains (with_left old left) r → r.events ≡ []
   none_shown left few r h =
       let none : left ≡ 0 = omega (arith, few) in
-      (ended_spent (with_left mid left) mid.library mid.path r left stand library linked first refl none ((d left).1 r h)).events
+      (ended_spent (with_left mid left) mid.compiled mid.path r left stand compiled linked first refl none ((d left).1 r h)).events
 
   shows_one : length text < length after → (left : ℕ) (r : Outcomes) → Remains (with_left old (1 + left)) r → WentOne (with_left old (1 + left)) (with_left new left) before after r
   shows_one grew left r h =

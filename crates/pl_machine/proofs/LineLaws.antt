@@ -10,7 +10,7 @@ use Rattle.pl_ops.specs.Tables.{Operators}
 use Rattle.pl_unify.specs.State.{State, tree_of_var}
 use Rattle.prep_report.specs.declared.answer.Binding.{Binding}
 use Rattle.prep_report.specs.Lines.{is_shown, next_text, bindings_text}
-use Rattle.goal_records.specs.Denotation.{template_of}
+use Rattle.goal_state.specs.Denotation.{template_of}
 use Rattle.pl_machine.specs.Shown.{value_in, binding_shown, next_shown, bindings_shown}
 
 -- a variable with its value, or with itself where it is not shown

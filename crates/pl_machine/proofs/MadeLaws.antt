@@ -5,12 +5,12 @@ use Rattle.pl_terms.specs.Trees.{Tree}
 use Rattle.pl_terms.specs.Cells.{cells}
 use Rattle.pl_terms.specs.Occurrence.{variables, from_to}
 use Rattle.pl_terms.specs.declared.read_term.VarName.{VarName}
-use Rattle.run_model.specs.Substitution.{apply, raise}
+use Rattle.unifier_model.specs.Substitution.{apply, raise}
 use Rattle.pl_unify.specs.Words.{bound_onto}
 use Rattle.pl_unify.specs.Load.{NewInOrder, next_after}
 use Rattle.pl_unify.specs.State.{State, Grows, base, bound}
-use Rattle.goal_records.specs.declared.path.Path.{Path}
-use Rattle.goal_records.specs.Denotation.{state_of}
+use Rattle.goal_state.specs.declared.path.Path.{Path}
+use Rattle.goal_state.specs.Denotation.{state_of}
 use Rattle.pl_machine.specs.Starting.{IsFresh}
 use Rattle.pl_machine.proofs.Numbered.{raise-none, order-numbered, next-numbered}
 

@@ -9,6 +9,7 @@ use Rattle.pl_store.specs.Linked.{Linked, with_names}
 use Rattle.pl_store.specs.Facts.{IsLinked, FactsStay}
 use Rattle.naming_laws.specs.Translation.{written_names}
 use Rattle.naming_laws.specs.SameRun.{HasNames}
+use Rattle.naming_laws.proofs.Tables.{names-are-added}
 
 contains-front : (old new : List (List ℕ)) (s : List ℕ) → IsFront old new → Contains old s → Contains new s
 contains-front old new s front c =
@@ -22,6 +23,10 @@ has-front old new front distinct h = record {
   distinct = distinct;
   written = λ k d l. contains-front old new (get_or written_names k d) front (h.written k d l);
 }
+
+-- the names are there once they were put in
+pub written_there : (old new : List (List ℕ)) → AreDistinct old → new ≡ with_texts old written_names → HasNames new
+written_there old new distinct e = subst HasNames (sym e) (names-are-added old distinct)
 
 -- the first of some texts were put in
 pub record Put (old new texts : List (List ℕ)) (i : ℕ) : Type 0 where

@@ -4,7 +4,7 @@ use Rattle.std.proofs.lemmas.Bool.{eq-eqb, eqb-true, or_cases, or_left, or_right
 use Rattle.pl_terms.specs.Trees.{Tree, var, int, atom, comp, Trees, nil, cons}
 use Rattle.pl_terms.specs.Cells.{cells}
 use Rattle.pl_terms.specs.Occurrence.{occurrences, all_occurrences, is_in, unless_seen, first_after, variables, from_to, place_of, numbered_by, all_numbered_by, canon}
-use Rattle.run_model.specs.Substitution.{raise}
+use Rattle.unifier_model.specs.Substitution.{raise}
 use Rattle.pl_unify.specs.Load.{NewInOrder, next_after}
 use Rattle.pl_builtin_terms.proofs.Copies.{order-canon, next-canon}
 

@@ -5,18 +5,18 @@ use Rattle.std.proofs.lemmas.Bool.{ltb-false}
 use Rattle.std.proofs.lemmas.List.{reverse-append}
 use Rattle.pl_terms.specs.Trees.{Tree}
 use Rattle.pl_unify.specs.declared.word.Ref.{Ref}
-use Rattle.search_theory.specs.Search.{Over, Failed, Thrown, Halted, PointOf}
-use Rattle.search_theory.specs.Configurations.{Configuration}
+use Rattle.solver_model.specs.Search.{Over, Failed, Thrown, Halted, PointOf}
+use Rattle.solver_model.specs.Configurations.{Configuration}
 use Rattle.pl_store.specs.Runs.{program_of}
-use Rattle.goal_records.specs.declared.choice.Choice.{Choice}
-use Rattle.goal_records.specs.declared.choice.ChoiceKind.{ChoiceKind}
-use Rattle.goal_records.specs.declared.choice.ChoiceKind.TheVariants.{Clauses, Branch, Catch, Collect}
-use Rattle.goal_records.specs.declared.library.Library.{Library}
-use Rattle.goal_records.specs.declared.path.Path.{Path}
-use Rattle.goal_records.specs.Denotation.{linked, language_of, answers_of, outer_of, outer_answers, frames_on, point_here, search_at}
-use Rattle.goal_records.specs.Well.{IsWell, IsWellWith}
-use Rattle.goal_records.specs.Steps.{kept, template_kept, answers_kept}
-use Rattle.goal_records.proofs.BackLaws.{cut_well}
+use Rattle.goal_state.specs.declared.choice.Choice.{Choice}
+use Rattle.goal_state.specs.declared.choice.ChoiceKind.{ChoiceKind}
+use Rattle.goal_state.specs.declared.choice.ChoiceKind.TheVariants.{Clauses, Branch, Catch, Collect}
+use Rattle.goal_state.specs.declared.compiled.CompiledProgram.{CompiledProgram}
+use Rattle.goal_state.specs.declared.path.Path.{Path}
+use Rattle.goal_state.specs.Denotation.{linked, language_of, answers_of, outer_of, outer_answers, frames_on, point_here, search_at}
+use Rattle.goal_state.specs.Well.{IsWell, IsWellWith}
+use Rattle.goal_state.specs.Steps.{kept, template_kept, answers_kept}
+use Rattle.goal_state.proofs.BackLaws.{cut_well}
 use Rattle.goal_moves.specs.declared.going.Going.{Going}
 use Rattle.goal_moves.specs.declared.going.Going.TheVariants.{On, Fails, Halts, Uncaught}
 use Rattle.goal_moves.specs.Moves.{Stays}
@@ -29,7 +29,7 @@ use Rattle.pl_machine.proofs.MachineLaws.{moved_machine}
 
 -- ---- other records
 
-module _ (b : Library) (p q : Path) (others : q ≡ record p { choices = q.choices }) where
+module _ (b : CompiledProgram) (p q : Path) (others : q ≡ record p { choices = q.choices }) where
   pub records_well : (cs : List Choice) (d : ℕ) → IsWellWith b p cs d → IsWellWith b q cs d
   records_well cs d w = subst (λ r. IsWellWith b r cs d) (sym others) (record { store = w.store; frames = w.frames; template = w.template; wide = w.wide; records = w.records; gathered = w.gathered })
 
@@ -53,18 +53,18 @@ module _ (b : Library) (p q : Path) (others : q ≡ record p { choices = q.choic
 module _ (m : Machine) (q : Path) (others : q ≡ record m.path { choices = q.choices }) (same : q.choices.items ≡ m.path.choices.items) where
   pub room_machine : IsMachine m → IsMachine (record m { path = q })
   room_machine h =
-      moved_machine m q m.going h (subst (λ d. IsWellWith m.library q (reverse q.choices.items) d) (sym (ap (λ (r : Path). r.depth) others)) (same_well m.library m.path q others same m.path.depth h.well))
+      moved_machine m q m.going h (subst (λ d. IsWellWith m.compiled q (reverse q.choices.items) d) (sym (ap (λ (r : Path). r.depth) others)) (same_well m.compiled m.path q others same m.path.depth h.well))
       (let deep : q.depth ≡ m.path.depth = ap (λ (r : Path). r.depth) others in omega (arith, deep)) (ap (λ (r : Path). r.width) others)
 
   pub room_inside : (node : ℕ) → IsInside m node → IsInside (record m { path = q }) node
-  room_inside node h = record { library = h.library; well = same_well m.library m.path q others same node h.well; depth = ap (λ (r : Path). r.depth) others ∙ h.depth }
+  room_inside node h = record { compiled = h.compiled; well = same_well m.compiled m.path q others same node h.well; depth = ap (λ (r : Path). r.depth) others ∙ h.depth }
 
   pub room_remains : (r : Outcomes) → Remains m r → Remains (record m { path = q }) r
-  room_remains r h = same_stays m.library m.path q others same (λ x. IsSo m.library x r) m.left m.going h
+  room_remains r h = same_stays m.compiled m.path q others same (λ x. IsSo m.compiled x r) m.left m.going h
 
 -- ---- a record that is opened
 
-module _ (b : Library) (p q : Path) (c : Choice) (others : q ≡ record p { choices = q.choices }) (opened : q.choices.items ≡ p.choices.items ++ c ∷ []) where
+module _ (b : CompiledProgram) (p q : Path) (c : Choice) (others : q ≡ record p { choices = q.choices }) (opened : q.choices.items ≡ p.choices.items ++ c ∷ []) where
   pub opened_well : (d : ℕ) → IsWellWith b p (c ∷ reverse p.choices.items) d → IsWellWith b q (reverse q.choices.items) d
   opened_well d w =
       let is : reverse q.choices.items ≡ c ∷ reverse p.choices.items = ap reverse opened ∙ reverse-append p.choices.items (c ∷ []) in
@@ -109,13 +109,13 @@ module _ (p q : Path) (d : ℕ) (h : CutOff p q d) where
   cut_depth = ap (λ (r : Path). r.depth) h.others
 
 module _ (m : Machine) (q : Path) (d : ℕ) (h : CutOff m.path q d) where
-  cut_on : (depth : ℕ) → IsWellWith m.library m.path (reverse m.path.choices.items) depth → IsWellWith m.library q (reverse q.choices.items) depth
-  cut_on depth w = cut_well m.library m.path q d depth h.choices h.template h.gathered h.others w
+  cut_on : (depth : ℕ) → IsWellWith m.compiled m.path (reverse m.path.choices.items) depth → IsWellWith m.compiled q (reverse q.choices.items) depth
+  cut_on depth w = cut_well m.compiled m.path q d depth h.choices h.template h.gathered h.others w
 
   pub cut_machine : IsMachine m → IsMachine (record m { path = q })
   cut_machine i =
       let deep : q.depth ≡ m.path.depth = cut_depth m.path q d h in
-      moved_machine m q m.going i (subst (λ k. IsWellWith m.library q (reverse q.choices.items) k) (sym deep) (cut_on m.path.depth i.well)) (omega (arith, deep)) (ap (λ (r : Path). r.width) h.others)
+      moved_machine m q m.going i (subst (λ k. IsWellWith m.compiled q (reverse q.choices.items) k) (sym deep) (cut_on m.path.depth i.well)) (omega (arith, deep)) (ap (λ (r : Path). r.width) h.others)
 
   pub cut_inside : (node : ℕ) → IsInside m node → IsInside (record m { path = q }) node
-  cut_inside node i = record { library = i.library; well = cut_on node i.well; depth = cut_depth m.path q d h ∙ i.depth }
+  cut_inside node i = record { compiled = i.compiled; well = cut_on node i.well; depth = cut_depth m.path q d h ∙ i.depth }

@@ -2,7 +2,7 @@
 use Rattle.std.proofs.Common.{◌≡◌, ℕ, ◌+◌, ◌^◌, ◌<◌, ◌≤◌, List, [], ◌++◌, Option, Result, Ok, Err, OnErr, refl, sym, ap, ◌∙◌, subst, arith, length, append_assoc, append-nil}
 use Rattle.std.specs.Io.KnownBytes.{Appends}
 use Rattle.pl_terms.specs.Trees.{Tree}
-use Rattle.search_theory.specs.Search.{Event, answers_of}
+use Rattle.solver_model.specs.Search.{Event, answers_of}
 use Rattle.plm_io.specs.Causes.{Rose, AppendsFront}
 use Rattle.plm_io.proofs.FrontLaws.{Appends_nothing, Appends-append, front_of_nothing, front_of_first, front_of_second}
 use Rattle.prep_report.specs.declared.end.End2.{End2}

@@ -6,7 +6,7 @@ use Rattle.pl_terms.specs.Order.{text_of, texts_of}
 use Rattle.pl_terms.specs.declared.read_term.VarName.{VarName}
 use Rattle.pl_ops.specs.Standard.{standard}
 use Rattle.pl_ops.specs.Tables.{operator, Operators}
-use Rattle.search_theory.specs.Search.{Event, Out, Ans, answers_of}
+use Rattle.solver_model.specs.Search.{Event, Out, Ans, answers_of}
 use Rattle.goal_model.specs.Table.{shown}
 use Rattle.naming_laws.specs.SameRun.{event_by}
 use Rattle.pl_machine.specs.declared.machine.Machine.{Machine}
@@ -25,22 +25,22 @@ events-append look vs (e ∷ a) b =
 
 pub text-append : (m : Machine) (a b : Events) → text_shown m (a ++ b) ≡ text_shown m a ++ text_shown m b
 text-append m a b =
-    ap (events_shown (operator standard) m.variables.items) (map-append (event_by (text_of m.library.names)) a b)
-    ∙ events-append (operator standard) m.variables.items (map (event_by (text_of m.library.names)) a) (map (event_by (text_of m.library.names)) b)
+    ap (events_shown (operator standard) m.variables.items) (map-append (event_by (text_of m.compiled.names)) a b)
+    ∙ events-append (operator standard) m.variables.items (map (event_by (text_of m.compiled.names)) a) (map (event_by (text_of m.compiled.names)) b)
 
 -- a machine that kept its names and variables shows events alike
 pub text-same : (old new : Machine) (events : Events) → Same old new → text_shown new events ≡ text_shown old events
 text-same old new events s =
     ap (λ b. events_shown (operator standard) new.variables.items (map (event_by (text_of b.names)) events)) s.0
-    ∙ ap (λ v. events_shown (operator standard) v.items (map (event_by (text_of old.library.names)) events)) s.1
+    ∙ ap (λ v. events_shown (operator standard) v.items (map (event_by (text_of old.compiled.names)) events)) s.1
 
 -- what is written is shown as it is
 pub text-written : (m : Machine) (bytes : List ℕ) → text_shown m (shown bytes) ≡ bytes
 text-written m [] = refl
 text-written m (b ∷ bytes) = append-nil (b ∷ bytes)
 
-pub text-answer : (m : Machine) (ts : List (Tree ℕ)) → text_shown m (Ans ts ∷ []) ≡ answer_shown (operator standard) m.variables.items (map (texts_of m.library.names) ts)
-text-answer m ts = append-nil (answer_shown (operator standard) m.variables.items (map (texts_of m.library.names) ts))
+pub text-answer : (m : Machine) (ts : List (Tree ℕ)) → text_shown m (Ans ts ∷ []) ≡ answer_shown (operator standard) m.variables.items (map (texts_of m.compiled.names) ts)
+text-answer m ts = append-nil (answer_shown (operator standard) m.variables.items (map (texts_of m.compiled.names) ts))
 
 -- ---- answers
 

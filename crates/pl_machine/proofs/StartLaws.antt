@@ -4,25 +4,25 @@ use Rattle.std.specs.Prelude.{nat_eq, codes}
 use Rattle.std.proofs.lemmas.List.{append-nil}
 use Rattle.pl_terms.specs.Trees.{Tree, var}
 use Rattle.pl_terms.specs.Occurrence.{canon, variables, from_to}
-use Rattle.run_model.specs.Substitution.{apply}
+use Rattle.unifier_model.specs.Substitution.{apply}
 use Rattle.pl_unify.specs.declared.word.Ref.{Ref}
 use Rattle.pl_unify.specs.Words.{bound_onto}
 use Rattle.pl_unify.specs.State.{base, tree_at}
-use Rattle.search_theory.specs.Search.{At, Over, Thrown, pops}
-use Rattle.search_theory.specs.Configurations.{Configuration, Sane, value_of, Turns}
-use Rattle.search_theory.proofs.TurnLaws.{turns_none}
+use Rattle.solver_model.specs.Search.{At, Over, Thrown, pops}
+use Rattle.solver_model.specs.Configurations.{Configuration, Sane, value_of, Turns}
+use Rattle.solver_model.proofs.TurnLaws.{turns_none}
 use Rattle.goal_model.specs.Bodies.{goal_of, flat}
 use Rattle.goal_model.specs.Run.{run_of, start, starting, user_place}
 use Rattle.goal_model.specs.Table.{Items}
 use Rattle.goal_model.proofs.SaneProofs.{start_sane}
 use Rattle.pl_store.specs.Runs.{program_of}
-use Rattle.goal_frames.specs.Frames.{env_of, items_of}
-use Rattle.goal_terms.specs.Calling.{IsCalled}
-use Rattle.goal_terms.specs.declared.calling.Called.TheVariants as C
-use Rattle.goal_records.specs.declared.library.Library.{Library}
-use Rattle.goal_records.specs.declared.path.Path.{Path}
-use Rattle.goal_records.specs.Denotation.{linked, naming, language_of, bodies, state_of, template_of, items_here, world_here, point_here, frames_on, search_at}
-use Rattle.goal_records.specs.Well.{IsLibrary, IsWell, IsWellWith}
+use Rattle.goal_state.specs.Frames.{env_of, items_of}
+use Rattle.goal_constructs.specs.Calling.{IsCalled}
+use Rattle.goal_constructs.specs.declared.calling.Called.TheVariants as C
+use Rattle.goal_state.specs.declared.compiled.CompiledProgram.{CompiledProgram}
+use Rattle.goal_state.specs.declared.path.Path.{Path}
+use Rattle.goal_state.specs.Denotation.{linked, naming, language_of, bodies, state_of, template_of, items_here, world_here, point_here, frames_on, search_at}
+use Rattle.goal_state.specs.Well.{IsCompiled, IsWell, IsWellWith}
 use Rattle.goal_moves.specs.declared.active.Rest.{Rest}
 use Rattle.goal_moves.specs.declared.going.Going.{Going}
 use Rattle.goal_moves.specs.declared.going.Going.TheVariants.{On}
@@ -30,7 +30,7 @@ use Rattle.goal_moves.specs.Control.{Grew}
 use Rattle.goal_moves.specs.Moves.{Entered, Moved, here, thrown}
 use Rattle.goal_moves.proofs.PlainLaws.{stays_then}
 use Rattle.goal_moves.proofs.Steady.{entered_depth}
-use Rattle.goal_records.proofs.PathLaws.{grown_well}
+use Rattle.goal_state.proofs.PathLaws.{grown_well}
 use Rattle.pl_machine.specs.Starting.{IsFresh, outermost, Begins}
 
 -- the first place
@@ -38,15 +38,15 @@ abbrev pub first : Rest
 first = record { f = 0; pc = 0 }
 
 -- the name under which a run's goal is called
-abbrev pub call_name : Library → ℕ
+abbrev pub call_name : CompiledProgram → ℕ
 call_name b = (naming b).name (codes "call")
 
 -- the search that a run is
-abbrev pub begun : (b : Library) → Tree ℕ → ℕ → Configuration (language_of b)
+abbrev pub begun : (b : CompiledProgram) → Tree ℕ → ℕ → Configuration (language_of b)
 begun b goal left = record { point = start (naming b) goal; left = left; clauses = (program_of (linked b)).clauses; frames = [] }
 
 -- the value of a search that turns from it
-turned_gives : (b : Library) (goal : Tree ℕ) (left : ℕ) (x : Configuration (language_of b)) → x ≡ begun b goal left → (y : Configuration (language_of b)) → Turns (language_of b) x y
+turned_gives : (b : CompiledProgram) (goal : Tree ℕ) (left : ℕ) (x : Configuration (language_of b)) → x ≡ begun b goal left → (y : Configuration (language_of b)) → Turns (language_of b) x y
     → Sane (language_of b) y × (value_of (language_of b) y ≡ run_of (naming b) nat_eq (program_of (linked b)) goal left)
 turned_gives b goal left x e y t =
     let P : Configuration (language_of b) → Type 0 = λ z. Sane (language_of b) z × (value_of (language_of b) z ≡ run_of (naming b) nat_eq (program_of (linked b)) goal left) in
@@ -71,12 +71,12 @@ grew_depth p q g = ap (λ r. r.depth) g.others
 pub grew_width : (p q : Path) → Grew p q → q.width ≡ p.width
 grew_width p q g = ap (λ r. r.width) g.others
 
-pub grew_well : (b : Library) (p q : Path) → Grew p q → IsWell b p → IsWell b q
+pub grew_well : (b : CompiledProgram) (p q : Path) → Grew p q → IsWell b p → IsWell b q
 grew_well b p q g w =
     subst (λ r. IsWellWith b q (reverse r.choices.items) r.depth) (sym g.others) (grown_well b p q g.others g.grows.extends (reverse p.choices.items) p.depth g.store w)
 
 -- goals were put before a path
-module _ (b : Library) (p q : Path) (rest at : Rest) (items : Items ℕ) (h : Entered b p q rest at items) where
+module _ (b : CompiledProgram) (p q : Path) (rest at : Rest) (items : Items ℕ) (h : Entered b p q rest at items) where
   pub entered_well : IsWell b p → IsWell b q
   entered_well well = subst (λ d. IsWellWith b q (reverse q.choices.items) d) (sym (entered_depth b p q rest at items h)) (h.well p.depth well)
 
@@ -86,7 +86,7 @@ module _ (b : Library) (p q : Path) (rest at : Rest) (items : Items ℕ) (h : En
   pub entered_width : q.width ≡ p.width
   entered_width = ap (λ r. r.width) h.others
 
-module _ (b : Library) (p : Path) (goal : Tree ℕ) (fresh : IsFresh p goal) where
+module _ (b : CompiledProgram) (p : Path) (goal : Tree ℕ) (fresh : IsFresh p goal) where
   abbrev width : ℕ
   width = length (variables goal)
 
@@ -120,12 +120,12 @@ module _ (b : Library) (p : Path) (goal : Tree ℕ) (fresh : IsFresh p goal) whe
       let all : template_of (state_of p) p.width p.template ≡ map var (from_to 0 width) = none ∙ own ∙ ap (λ n. map var (from_to 0 n)) fresh.width in
       λ i. record { template = all i; next = fresh.next i }
 
-  module _ (library : IsLibrary b) (well : IsWell b p) (q : Path) (at : Ref) (h : Entered b p q first (here q) (flat (naming b) (tree_at (state_of p) at) (env_of (outermost b)) 0 ++ items_here b p 0 0)) where
+  module _ (compiled : IsCompiled b) (well : IsWell b p) (q : Path) (at : Ref) (h : Entered b p q first (here q) (flat (naming b) (tree_at (state_of p) at) (env_of (outermost b)) 0 ++ items_here b p 0 0)) where
     abbrev body : Tree ℕ
     body = tree_at (state_of p) at
 
     user : (naming b).name (codes "user") ≡ b.constructs.names.user_word.0
-    user = library.constructs.names.user_word.made
+    user = compiled.constructs.names.user_word.made
 
     its_items : items_here b q q.f q.pc ≡ flat (naming b) body (user_place (naming b)) 0
     its_items =

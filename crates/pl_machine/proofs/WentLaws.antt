@@ -1,8 +1,8 @@
 -- Machines that went on, one move after the other.
 use Rattle.std.proofs.Common.{◌≡◌, ℕ, ◌+◌, ◌^◌, ◌<◌, true, List, [], ◌++◌, refl, sym, ap, ◌∙◌, subst, arith, length, append_assoc, append-nil, length-append}
 use Rattle.std.proofs.lemmas.List.{nil_from_length}
-use Rattle.goal_records.specs.declared.path.Path.{Path}
-use Rattle.search_theory.specs.Search.{answers_of}
+use Rattle.goal_state.specs.declared.path.Path.{Path}
+use Rattle.solver_model.specs.Search.{answers_of}
 use Rattle.goal_model.specs.Table.{shown}
 use Rattle.goal_moves.specs.declared.standing.Stand.{Stand}
 use Rattle.prep_report.specs.declared.end.End2.{End2}
@@ -11,7 +11,7 @@ use Rattle.pl_machine.specs.declared.moves.Part.{Part}
 use Rattle.pl_machine.specs.declared.moves.Part.TheVariants as P
 use Rattle.pl_machine.specs.declared.moves.Progress.{Progress}
 use Rattle.pl_machine.specs.declared.moves.Progress.TheVariants as G
-use Rattle.goal_records.specs.Denotation.{point_here}
+use Rattle.goal_state.specs.Denotation.{point_here}
 use Rattle.pl_machine.specs.Fronts.{first_at}
 use Rattle.pl_machine.specs.Machine.{IsWaiting}
 use Rattle.pl_machine.specs.Moving.{Activates, Stepped, Peaked, Stopped, noted, leaves_at, first_leaves}
@@ -152,8 +152,8 @@ pub stepped_from : (old mid new : Machine) → mid.left ≡ old.left → (Activa
 stepped_from old mid new same there back s = record { activated = λ h. s.activated (there h) ∙ same; none = λ h. s.none (λ m. h (back m)) ∙ same }
 
 -- what stands first is noted by the place before it
-pub first_noted : (m : Machine) (stand : Stand) (peak : ℕ) → first_at m.library m.path stand ≡ point_here m.library m.path
-    → peak ≡ noted m.peak (length m.path.choices.items) (leaves_at m (first_at m.library m.path stand)) → peak ≡ noted m.peak (length m.path.choices.items) (first_leaves m)
+pub first_noted : (m : Machine) (stand : Stand) (peak : ℕ) → first_at m.compiled m.path stand ≡ point_here m.compiled m.path
+    → peak ≡ noted m.peak (length m.path.choices.items) (leaves_at m (first_at m.compiled m.path stand)) → peak ≡ noted m.peak (length m.path.choices.items) (first_leaves m)
 first_noted m stand peak at e = e ∙ ap (λ x. noted m.peak (length m.path.choices.items) (leaves_at m x)) at
 
 pub peaked_one : (old new : Machine) → Activates old → new.peak ≡ noted old.peak (length old.path.choices.items) (first_leaves old) → Peaked old new
@@ -201,6 +201,6 @@ module _ (a b c : Machine) (h : c ≡ record b { path = c.path; going = c.going;
 pub placed_kept : (m n : Machine) (q : Path) (text : List ℕ) → n ≡ record m { path = q } → Kept m n text text
 placed_kept m n q text h = record {
   text = refl;
-  same = (ap (λ (x : Machine). x.library) h, ap (λ (x : Machine). x.variables) h, ap (λ (x : Machine). x.budget) h);
+  same = (ap (λ (x : Machine). x.compiled) h, ap (λ (x : Machine). x.variables) h, ap (λ (x : Machine). x.budget) h);
   answers = ap (λ (x : Machine). x.answers) h;
 }

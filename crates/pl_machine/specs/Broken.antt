@@ -2,7 +2,7 @@
 use Rattle.std.specs.Prelude.{◌≡◌, ℕ, ◌+◌, ◌<◌, nat_lt, List, [], ◌∷◌, ◌++◌, length, filter, take, Option}
 use Rattle.std.specs.Io.KnownBytes.{Appends}
 use Rattle.pl_terms.specs.Trees.{Tree}
-use Rattle.search_theory.specs.Search.{Event}
+use Rattle.solver_model.specs.Search.{Event}
 use Rattle.pl_machine.specs.declared.machine.Machine.{Machine}
 use Rattle.pl_machine.specs.Running.{Outcomes, text_shown}
 

@@ -2,17 +2,17 @@
 use Rattle.std.specs.Prelude.{◌≡◌, ℕ, ◌+◌, ◌≤◌, List, ◌∷◌, reverse, take}
 use Rattle.std.specs.List.{All}
 use Rattle.pl_unify.specs.State.{state_at}
-use Rattle.goal_records.specs.declared.choice.Choice.{Choice}
-use Rattle.goal_records.specs.declared.choice.ChoiceKind.{ChoiceKind}
-use Rattle.goal_records.specs.declared.choice.ChoiceKind.TheVariants.{Collect}
-use Rattle.goal_records.specs.Denotation.{state_of, answers_of, outer_of, outer_answers}
-use Rattle.goal_records.specs.Well.{IsLibrary, IsWellWith}
+use Rattle.goal_state.specs.declared.choice.Choice.{Choice}
+use Rattle.goal_state.specs.declared.choice.ChoiceKind.{ChoiceKind}
+use Rattle.goal_state.specs.declared.choice.ChoiceKind.TheVariants.{Collect}
+use Rattle.goal_state.specs.Denotation.{state_of, answers_of, outer_of, outer_answers}
+use Rattle.goal_state.specs.Well.{IsCompiled, IsWellWith}
 use Rattle.pl_machine.specs.declared.machine.Machine.{Machine}
 
 -- a machine inside a move, in a node of this depth: its records are in order for one of the node
 pub record IsInside (m : Machine) (node : ℕ) : Type 0 where
-  pub library : IsLibrary m.library
-  pub well : IsWellWith m.library m.path (reverse m.path.choices.items) node
+  pub compiled : IsCompiled m.compiled
+  pub well : IsWellWith m.compiled m.path (reverse m.path.choices.items) node
   pub depth : m.path.depth ≡ node + 1
 
 -- the last record was taken off, and the machine went back to its node

@@ -1,7 +1,7 @@
 -- What a move does.
 use Rattle.std.specs.Prelude.{◌≡◌, ℕ, ◌+◌, ◌<◌, max, Bool, false, true, if◌then◌else◌, List, length}
-use Rattle.search_theory.specs.Search.{PointOf}
-use Rattle.goal_records.specs.Denotation.{language_of, point_here, search_at}
+use Rattle.solver_model.specs.Search.{PointOf}
+use Rattle.goal_state.specs.Denotation.{language_of, point_here, search_at}
 use Rattle.goal_moves.specs.Untried.{leaves_untried}
 use Rattle.pl_machine.specs.declared.machine.Machine.{Machine}
 use Rattle.pl_machine.specs.declared.moves.Progress.{Progress}
@@ -18,11 +18,11 @@ pub record Stepped (old new : Machine) : Type 0 where
   pub none : (Activates old → ⊥) → new.left ≡ old.left
 
 -- whether the goal that stands first leaves something untried in its node when its first alternative was taken
-abbrev pub leaves_at : (m : Machine) → PointOf (language_of m.library) → Bool
-leaves_at m point = leaves_untried m.library (search_at m.library m.path point m.left)
+abbrev pub leaves_at : (m : Machine) → PointOf (language_of m.compiled) → Bool
+leaves_at m point = leaves_untried m.compiled (search_at m.compiled m.path point m.left)
 
 abbrev pub first_leaves : Machine → Bool
-first_leaves m = leaves_at m (point_here m.library m.path)
+first_leaves m = leaves_at m (point_here m.compiled m.path)
 
 -- the peak after an activation: one more than the records before it, where it left something untried
 abbrev pub noted : ℕ → ℕ → Bool → ℕ

@@ -4,13 +4,13 @@ use Rattle.pl_terms.specs.Trees.{Tree}
 use Rattle.pl_terms.specs.Order.{text_of}
 use Rattle.pl_ops.specs.Standard.{standard}
 use Rattle.pl_ops.specs.Tables.{operator}
-use Rattle.search_theory.specs.Search.{Event, End, Failed, CutTo, Thrown, Halted, Spent, Outcome, answers_of}
-use Rattle.search_theory.specs.Configurations.{Sane, value_of}
+use Rattle.solver_model.specs.Search.{Event, End, Failed, CutTo, Thrown, Halted, Spent, Outcome, answers_of}
+use Rattle.solver_model.specs.Configurations.{Sane, value_of}
 use Rattle.goal_model.specs.Program.{Clauses}
 use Rattle.naming_laws.specs.SameRun.{event_by}
 use Rattle.prep_report.specs.declared.end.End2.{End2}
 use Rattle.prep_report.specs.declared.end.End2.TheVariants as E
-use Rattle.goal_records.specs.Denotation.{language_of}
+use Rattle.goal_state.specs.Denotation.{language_of}
 use Rattle.goal_moves.specs.Moves.{Stays}
 use Rattle.pl_machine.specs.declared.machine.Machine.{Machine}
 use Rattle.pl_machine.specs.declared.run.Show.{Show}
@@ -25,7 +25,7 @@ Outcomes = Outcome (List (Tree ℕ)) (Tree ℕ) (Clauses ℕ)
 
 -- this is what a machine's run still gives
 abbrev pub Remains : Machine → Outcomes → Type 0
-Remains m r = Stays m.library (λ x. Sane (language_of m.library) x × (value_of (language_of m.library) x ≡ r)) m.path m.left m.going
+Remains m r = Stays m.compiled (λ x. Sane (language_of m.compiled) x × (value_of (language_of m.compiled) x ≡ r)) m.path m.left m.going
 
 -- how a run ends; what is cut to at the top is exhausted
 abbrev pub end_of : End (Tree ℕ) → End2
@@ -41,7 +41,7 @@ with_left m left = record m { left = left }
 
 -- the bytes of events
 abbrev pub text_shown : Machine → List (Event (List (Tree ℕ))) → List ℕ
-text_shown m events = events_shown (operator standard) m.variables.items (map (event_by (text_of m.library.names)) events)
+text_shown m events = events_shown (operator standard) m.variables.items (map (event_by (text_of m.compiled.names)) events)
 
 -- what is put of bytes that are shown
 abbrev pub bytes_by : Show → List ℕ → List ℕ
@@ -54,7 +54,7 @@ shown_by m show events = bytes_by show (text_shown m events)
 
 -- what a machine keeps
 abbrev pub Same : Machine → Machine → Type 0
-Same old new = (new.library ≡ old.library) × (new.variables ≡ old.variables) × (new.budget ≡ old.budget)
+Same old new = (new.compiled ≡ old.compiled) × (new.variables ≡ old.variables) × (new.budget ≡ old.budget)
 
 -- the answers that are counted: no more than 2 ^ 64 - 1
 abbrev pub stopped : ℕ → ℕ

@@ -5,7 +5,7 @@ use Rattle.pl_terms.specs.declared.read_term.VarName.{VarName}
 use Rattle.pl_ops.specs.Tables.{Operators}
 use Rattle.text_model.specs.Writing.{written}
 use Rattle.text_model.specs.declared.Quote.TheVariants.{Quoted as quotes}
-use Rattle.search_theory.specs.Search.{Event, Out, Ans}
+use Rattle.solver_model.specs.Search.{Event, Out, Ans}
 use Rattle.prep_report.specs.Lines.{is_shown}
 
 -- the value of a variable in an answer

@@ -4,7 +4,7 @@ ghost use Rattle.pl_terms.specs.Trees.{var};
 ghost use Rattle.pl_terms.specs.Order.{texts_of};
 ghost use Rattle.pl_ops.specs.Tables.{operator};
 ghost use Rattle.pl_unify.specs.State.{tree_of_var, Grows};
-ghost use Rattle.goal_records.specs.Denotation.{template_of};
+ghost use Rattle.goal_state.specs.Denotation.{template_of};
 ghost use Rattle.prep_report.specs.Lines.{is_shown as is_shown_name};
 ghost use Rattle.pl_machine.specs.Shown.{answer_shown};
 

@@ -6,30 +6,29 @@ ghost use Rattle.pl_unify.specs.State.{IsRef, tree_at};
 ghost use Rattle.pl_ops.specs.Standard.{standard};
 ghost use Rattle.pl_ops.specs.Tables.{operator};
 ghost use Rattle.goal_model.specs.Bodies.{goal_of};
-ghost use Rattle.goal_terms.specs.Calling.{IsCalled, IsPlace};
-ghost use Rattle.goal_records.specs.declared.library.Library.{Library as LibraryOf};
-ghost use Rattle.goal_records.specs.Denotation.{naming, state_of};
-ghost use Rattle.goal_records.specs.Well.{IsLibrary, IsWell};
+ghost use Rattle.goal_constructs.specs.Calling.{IsCalled, IsPlace};
+ghost use Rattle.goal_state.specs.declared.compiled.CompiledProgram.{CompiledProgram as CompiledOf};
+ghost use Rattle.goal_state.specs.Denotation.{naming, state_of};
+ghost use Rattle.goal_state.specs.Well.{IsCompiled, IsWell};
 ghost use Rattle.pl_machine.specs.Machine.{IsMachine};
 ghost use Rattle.goal_moves.specs.Control.{Grew};
 ghost use Rattle.pl_machine.specs.Starting.{IsStart, IsFresh, Begins, outermost};
 
-use crate::library::library_of;
-use goal_frames::{Frames, Setting};
+use crate::compiled::compiled_of;
+use goal_constructs::Called;
 use goal_moves::{Going, Rest, enter_goals, raise};
-use goal_records::{Library, Path};
-use goal_terms::Called;
+use goal_state::{CompiledProgram, Frames, Path, Setting};
 use pl_atoms::{Bytes, Names, NoMemory};
 use pl_ops::OpTable;
 use pl_store::Program;
-use pl_terms::{ReadTerm, VarName};
+use pl_terms::{ReadTerm, Term, VarName};
 use pl_unify::{Ref, Store};
 use std::alloc::Global;
 
 /// A run of a goal over a linked program, with a budget of steps.
 #[derive(Drop)]
 pub struct Machine {
-    pub(crate) library: Library,
+    pub(crate) compiled: CompiledProgram,
     pub(crate) table: OpTable,
     pub(crate) path: Path,
     pub(crate) variables: Vec<VarName>,
@@ -56,16 +55,12 @@ impl Machine {
         requires names { All (λ v. v.number < length (variables goal.now.term)) goal.now.names }
         ensures { IfOk result (IsStart program goal.now budget) }
     {
-        let library = library_of(alloc, program)?;
+        let compiled = compiled_of(alloc, program)?;
         let table = OpTable::standard(alloc)?;
         let variables = named(alloc, goal.names.as_slice())?;
-        let mut store = Store::new(alloc);
-        let term = store.load(&goal.term, 0)?;
-        let width = store.next_var();
-        let mut path = first_path(alloc, store, width);
-        let going = start(alloc, &library, &mut path, term)?;
+        let (path, going) = standing(alloc, &compiled, &goal.term)?;
         Ok(Machine {
-            library,
+            compiled,
             table,
             path,
             variables,
@@ -88,9 +83,9 @@ impl Machine {
 
     /// The names of the program, with those of the run.
     pub fn names(&self) -> &Names
-        ensures { result.now ≡ self.now.library.names }
+        ensures { result.now ≡ self.now.compiled.names }
     {
-        &self.library.names
+        &self.compiled.names
     }
 
     /// The operators under which terms are shown: the standard ones.
@@ -138,10 +133,31 @@ fn named(alloc: Global, names: &[VarName]) -> Result<Vec<VarName>, NoMemory>
     Ok(variables)
 }
 
+// A path that stands where a goal's run begins, and how it goes on.
+fn standing(
+    alloc: Global,
+    compiled: &CompiledProgram,
+    goal: &Term,
+) -> Result<(Path, Going), NoMemory>
+    requires compiled { IsCompiled compiled.now }
+    requires variables { variables goal.now ≡ from_to 0 (length (variables goal.now)) }
+    ensures well { IfOk result (λ r. IsWell compiled.now r.0) }
+    ensures low { IfOk result (λ r. r.0.depth ≤ 0) }
+    ensures width { IfOk result (λ r. r.0.width ≡ length (variables goal.now)) }
+    ensures begins { IfOk result (λ r. (left : ℕ) → Begins compiled.now r.0 goal.now left r.1) }
+{
+    let mut store = Store::new(alloc);
+    let term = store.load(goal, 0)?;
+    let width = store.next_var();
+    let mut path = first_path(alloc, store, width);
+    let going = start(alloc, compiled, &mut path, term)?;
+    Ok((path, going))
+}
+
 // A path that stands nowhere, over a store with the goal's variables.
 fn first_path(alloc: Global, store: Store, width: usize) -> Path
     requires { width ≡ store.state.next }
-    ensures path { (b : LibraryOf) → IsWell b result }
+    ensures path { (b : CompiledOf) → IsWell b result }
     ensures store { result.store ≡ store }
     ensures width { result.width ≡ width }
     ensures depth { result.depth ≡ 0 }
@@ -164,34 +180,39 @@ fn first_path(alloc: Global, store: Store, width: usize) -> Path
 }
 
 // Goes to the goals of a term, which is converted; an error of the conversion is thrown (ISO/IEC 13211-1, 7.6.2).
-fn start(alloc: Global, library: &Library, path: &mut Path, term: Ref) -> Result<Going, NoMemory>
-    requires library { IsLibrary library.now }
-    requires well { IsWell library.now path.old }
+fn start(
+    alloc: Global,
+    compiled: &CompiledProgram,
+    path: &mut Path,
+    term: Ref,
+) -> Result<Going, NoMemory>
+    requires compiled { IsCompiled compiled.now }
+    requires well { IsWell compiled.now path.old }
     requires term { IsRef (state_of path.old) term }
-    ensures well { IfOk result (λ g. IsWell library.now path.new) }
+    ensures well { IfOk result (λ g. IsWell compiled.now path.new) }
     ensures low { IfOk result (λ g. path.new.depth ≤ path.old.depth) }
     ensures width { IfOk result (λ g. path.new.width ≡ path.old.width) }
-    ensures begins { IfOk result (λ g. (left : ℕ) → IsFresh path.old (tree_at (state_of path.old) term) → Begins library.now path.new (tree_at (state_of path.old) term) left g) }
+    ensures begins { IfOk result (λ g. (left : ℕ) → IsFresh path.old (tree_at (state_of path.old) term) → Begins compiled.now path.new (tree_at (state_of path.old) term) left g) }
 {
-    let called = converted(alloc, library, path, term)?;
-    begin(alloc, library, path, called)
+    let called = converted(alloc, compiled, path, term)?;
+    begin(alloc, compiled, path, called)
 }
 
 // A term as `call/1` takes it for a goal.
 fn converted(
     alloc: Global,
-    library: &Library,
+    compiled: &CompiledProgram,
     path: &mut Path,
     term: Ref,
 ) -> Result<Called, NoMemory>
-    requires library { IsLibrary library.now }
+    requires compiled { IsCompiled compiled.now }
     requires term { IsRef (state_of path.old) term }
     ensures grew { OnOk result (Grew path.old path.new) }
     ensures place { IfOk result (λ r. IsPlace (state_of path.new) r) }
-    ensures goal { IfOk result (λ r. IsCalled (state_of path.new) (goal_of (naming library.now) (tree_at (state_of path.old) term) ((naming library.now).name (codes "call")) 1) r) }
+    ensures goal { IfOk result (λ r. IsCalled (state_of path.new) (goal_of (naming compiled.now) (tree_at (state_of path.old) term) ((naming compiled.now).name (codes "call")) 1) r) }
 {
-    let name = library.constructs.names().call;
-    let called = library
+    let name = compiled.constructs.names().call;
+    let called = compiled
         .constructs
         .goal_of(alloc, &mut path.store, term, name, 1)?;
     let _store = path.store.next_var();
@@ -201,34 +222,34 @@ fn converted(
 // Goes to the goals of a converted term, or throws the ball of its error.
 fn begin(
     alloc: Global,
-    library: &Library,
+    compiled: &CompiledProgram,
     path: &mut Path,
     called: Called,
 ) -> Result<Going, NoMemory>
-    requires library { IsLibrary library.now }
-    requires well { IsWell library.now path.old }
+    requires compiled { IsCompiled compiled.now }
+    requires well { IsWell compiled.now path.old }
     requires place { IsPlace (state_of path.old) called }
-    ensures well { IfOk result (λ g. IsWell library.now path.new) }
+    ensures well { IfOk result (λ g. IsWell compiled.now path.new) }
     ensures low { IfOk result (λ g. path.new.depth ≤ path.old.depth) }
     ensures width { IfOk result (λ g. path.new.width ≡ path.old.width) }
-    ensures begins { IfOk result (λ g. (goal : Tree ℕ) (left : ℕ) → IsFresh path.old goal → IsCalled (state_of path.old) (goal_of (naming library.now) goal ((naming library.now).name (codes "call")) 1) called → Begins library.now path.new goal left g) }
+    ensures begins { IfOk result (λ g. (goal : Tree ℕ) (left : ℕ) → IsFresh path.old goal → IsCalled (state_of path.old) (goal_of (naming compiled.now) goal ((naming compiled.now).name (codes "call")) 1) called → Begins compiled.now path.new goal left g) }
 {
     let rest = Rest { f: 0, pc: 0 };
     match called {
-        Called::Ball(ball) => raise(alloc, library, path, ball, rest),
+        Called::Ball(ball) => raise(alloc, compiled, path, ball, rest),
         Called::Goal(goal) => {
-            let setting = outermost(library);
-            enter_goals(alloc, library, path, goal, setting, rest)?;
+            let setting = outermost(compiled);
+            enter_goals(alloc, compiled, path, goal, setting, rest)?;
             Ok(Going::On)
         }
     }
 }
 
 // Where the goals of a run stand: in no clause, with everything in `user`.
-fn outermost(library: &Library) -> Setting
-    ensures { result ≡ outermost library.now }
+fn outermost(compiled: &CompiledProgram) -> Setting
+    ensures { result ≡ outermost compiled.now }
 {
-    let user = library.constructs.names().user_word;
+    let user = compiled.constructs.names().user_word;
     Setting {
         clause: 0,
         base: 0,

@@ -1,6 +1,6 @@
 //! The moves of a machine.
 ghost use Rattle.std.specs.Prelude.{◌≡◌, ◌+◌, ◌<◌, ℕ, nat_lt, List, length, true, false, Some, MatchOption, IfOk, IfSome, OnErr};
-ghost use Rattle.goal_frames.specs.Frames.{IsLinked};
+ghost use Rattle.goal_state.specs.Frames.{IsLinked};
 ghost use Rattle.goal_moves.specs.declared.going.Going.TheVariants as G;
 ghost use Rattle.pl_machine.specs.declared.front.Front.TheVariants as F;
 ghost use Rattle.pl_machine.specs.declared.moves.Part.TheVariants as P;
@@ -105,7 +105,7 @@ impl Machine {
         let Going::On = &self.going else {
             return None;
         };
-        match front_of(&self.library, &mut self.path) {
+        match front_of(&self.compiled, &mut self.path) {
             Front::Goal(stand) => Some(stand),
             _ => None,
         }
@@ -243,7 +243,7 @@ impl Machine {
         ensures others { IfOk result (λ part. self.new ≡ record self.old { path = self.new.path; going = self.new.going; answers = self.new.answers }) }
         ensures quiet { IfOk result (λ part. part ≡ P.Shown → ⊥) }
     {
-        match back(alloc, &self.library, &mut self.path)? {
+        match back(alloc, &self.compiled, &mut self.path)? {
             Going::Fails => Ok(Part::Ended(End::Exhausted)),
             going => {
                 self.going = going;
@@ -263,7 +263,7 @@ impl Machine {
         ensures others { IfOk result (λ part. self.new ≡ record self.old { path = self.new.path; going = self.new.going; answers = self.new.answers }) }
         ensures grew { IfOk result (λ part. part ≡ P.Shown → length text.old < length text.new) }
     {
-        match front_of(&self.library, &mut self.path) {
+        match front_of(&self.compiled, &mut self.path) {
             Front::Goal(stand) => {
                 self.going = Going::On;
                 Ok(Part::Waits(stand))
@@ -303,14 +303,14 @@ impl Machine {
         ensures grew { IfOk result (λ part. part ≡ P.Shown → length text.old < length text.new) }
     {
         if let Some(template) = self.path.template {
-            keep_answer(alloc, &self.library, &mut self.path, template)?;
+            keep_answer(alloc, &self.compiled, &mut self.path, template)?;
             return Ok(Part::Quiet);
         }
         let line = line_of(
             alloc,
             self.variables.as_slice(),
             &mut self.path.store,
-            &self.library.names,
+            &self.compiled.names,
             &self.table,
         )?;
         let _store = self.path.store.next_var();
@@ -322,7 +322,7 @@ impl Machine {
     // Activates the goal that stands first. Whether bytes were put onto the text.
     fn activate(&mut self, alloc: Global, stand: Stand, text: &mut Bytes) -> Result<bool, NoMemory>
         requires machine { IsMachine self.old }
-        requires first { IsFirst self.old.library self.old.path stand }
+        requires first { IsFirst self.old.compiled self.old.path stand }
         requires left { 0 < self.old.left }
         ensures machine { IfOk result (λ shown. IsMachine self.new) }
         ensures acted { IfOk result (λ shown. Acted self.old stand self.new text.old text.new) }
@@ -330,7 +330,7 @@ impl Machine {
         ensures quiet { IfOk result (λ shown. shown ≡ false → text.new ≡ text.old) }
         ensures grew { IfOk result (λ shown. shown ≡ true → length text.old < length text.new) }
         ensures step { IfOk result (λ shown. self.new.left + 1 ≡ self.old.left) }
-        ensures peak { IfOk result (λ shown. self.new.peak ≡ noted self.old.peak (length self.old.path.choices.items) (leaves_at self.old (first_at self.old.library self.old.path stand))) }
+        ensures peak { IfOk result (λ shown. self.new.peak ≡ noted self.old.peak (length self.old.path.choices.items) (leaves_at self.old (first_at self.old.compiled self.old.path stand))) }
         ensures over { IfOk result (λ shown. self.new.over ≡ self.old.over) }
     {
         let before = text.as_slice().len();
@@ -344,14 +344,14 @@ impl Machine {
     // Takes a step, which activates a goal.
     fn enter(&mut self, alloc: Global, stand: Stand, text: &mut Bytes) -> Result<Going, NoMemory>
         requires machine { IsMachine self.old }
-        requires first { IsFirst self.old.library self.old.path stand }
+        requires first { IsFirst self.old.compiled self.old.path stand }
         requires left { 0 < self.old.left }
         ensures machine { IfOk result (λ g. IsMachine self.new) }
         ensures acted { IfOk result (λ g. Acted self.old stand (record self.new { going = g }) text.old text.new) }
         ensures further { IfOk result (λ g. (left : ℕ) → Acted (with_left self.old (left + 1)) stand (record self.new { going = g; left = left }) text.old text.new) }
         ensures step { IfOk result (λ g. self.new.left + 1 ≡ self.old.left) }
         ensures peak { IfOk result (λ g. self.new.peak ≡ self.old.peak) }
-        ensures untried { IfOk result (λ g. has_more self.old.path self.new.path ≡ leaves_at self.old (first_at self.old.library self.old.path stand)) }
+        ensures untried { IfOk result (λ g. has_more self.old.path self.new.path ≡ leaves_at self.old (first_at self.old.compiled self.old.path stand)) }
         ensures over { IfOk result (λ g. self.new.over ≡ self.old.over) }
     {
         let node = self.path.depth;
@@ -361,7 +361,7 @@ impl Machine {
             Stand::Code(instruction, setting) => {
                 let going = activate_code(
                     alloc,
-                    &mut self.library,
+                    &mut self.compiled,
                     &self.table,
                     &mut self.path,
                     instruction,
@@ -380,7 +380,7 @@ impl Machine {
                 };
                 let going = activate_term(
                     alloc,
-                    &mut self.library,
+                    &mut self.compiled,
                     &self.table,
                     &mut self.path,
                     active,

@@ -1,15 +1,15 @@
 //! The records of a machine, from outside.
 ghost use Rattle.std.specs.Prelude.{◌≡◌, ◌<◌, ◌∷◌, ◌++◌, [], ℕ, length, reverse, true, false, Some, OnOk, slice_get, vec_len, vec_capacity};
-ghost use Rattle.goal_records.specs.declared.choice.Choice.{Choice as Entry};
-ghost use Rattle.goal_records.specs.Denotation.{answers_of};
-ghost use Rattle.goal_records.specs.Steps.{kept};
-ghost use Rattle.goal_records.specs.Well.{IsLibrary, IsWell, IsWellWith};
+ghost use Rattle.goal_state.specs.declared.choice.Choice.{Choice as Entry};
+ghost use Rattle.goal_state.specs.Denotation.{answers_of};
+ghost use Rattle.goal_state.specs.Steps.{kept};
+ghost use Rattle.goal_state.specs.Well.{IsCompiled, IsWell, IsWellWith};
 ghost use Rattle.pl_machine.specs.Inside.{IsInside, WentBack, Unnested};
 ghost use Rattle.pl_machine.specs.Machine.{IsMachine};
 ghost use Rattle.pl_machine.specs.Running.{Outcomes, Remains};
 
 use crate::machine::Machine;
-use goal_records::Choice;
+use goal_state::Choice;
 use pl_atoms::NoMemory;
 use pl_store::Tables;
 
@@ -24,9 +24,9 @@ impl Machine {
 
     /// The program without its names.
     pub fn tables(&self) -> &Tables
-        ensures { result.now ≡ self.now.library.tables }
+        ensures { result.now ≡ self.now.compiled.tables }
     {
-        &self.library.tables
+        &self.compiled.tables
     }
 
     /// Makes room for one more record.
@@ -46,11 +46,11 @@ impl Machine {
     /// Opens a record, for which there is room, and which is in order above the others.
     pub fn open(&mut self, choice: Choice)
         requires room { vec_len self.old.path.choices < vec_capacity self.old.path.choices }
-        requires inside { IsWellWith self.old.library self.old.path (choice ∷ reverse self.old.path.choices.items) self.old.path.depth }
+        requires inside { IsWellWith self.old.compiled self.old.path (choice ∷ reverse self.old.path.choices.items) self.old.path.depth }
         ensures choices { self.new.path.choices.items ≡ self.old.path.choices.items ++ choice ∷ [] }
         ensures others { self.new ≡ record self.old { path = record self.old.path { choices = self.new.path.choices } } }
-        ensures well { IsWell self.new.library self.new.path }
-        ensures inside { (node : ℕ) → IsInside self.old node → IsWellWith self.old.library self.old.path (choice ∷ reverse self.old.path.choices.items) node → IsInside self.new node }
+        ensures well { IsWell self.new.compiled self.new.path }
+        ensures inside { (node : ℕ) → IsInside self.old node → IsWellWith self.old.compiled self.old.path (choice ∷ reverse self.old.path.choices.items) node → IsInside self.new node }
     {
         self.path.open(choice);
     }
@@ -58,8 +58,8 @@ impl Machine {
     /// Takes the last record off, and goes back to its node: to the state of its mark, and to the frames that there were. Whether there
     /// was one: without, all is as before.
     pub fn back(&mut self) -> bool
-        requires library { IsLibrary self.old.library }
-        requires well { IsWell self.old.library self.old.path }
+        requires compiled { IsCompiled self.old.compiled }
+        requires well { IsWell self.old.compiled self.old.path }
         ensures none { result ≡ false → (self.old.path.choices.items ≡ []) × (self.new ≡ self.old) }
         ensures back { result ≡ true → (c : Entry) × WentBack self.old self.new c × IsInside self.new c.depth }
     {

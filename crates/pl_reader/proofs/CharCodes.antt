@@ -1,5 +1,5 @@
 -- The characters of a text, byte by byte.
-use Rattle.std.proofs.Common.{◌≡◌, ℕ, zero, suc, ◌+◌, ◌-◌, ◌*◌, ◌<◌, List, [], ◌∷◌, ◌++◌, length, refl, sym, ap, ◌∙◌, arith, subst, append_assoc, append-nil, pos}
+use Rattle.std.proofs.Common.{◌≡◌, ℕ, zero, suc, ◌+◌, ◌-◌, ◌*◌, ◌<◌, List, [], ◌∷◌, ◌++◌, length, refl, sym, ap, ◌∙◌, arith, append_assoc, append-nil, pos}
 use Rattle.std.specs.Str.{chars, chars_after, continuation_len, lead_bits}
 use Rattle.pl_terms.specs.declared.cell.Cell.{Cell}
 use Rattle.pl_terms.specs.declared.cell.Cell.TheVariants.{Int}

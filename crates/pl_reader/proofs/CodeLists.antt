@@ -1,22 +1,20 @@
 -- A text of codes as an operand.
-use Rattle.std.proofs.Common.{◌≡◌, ℕ, suc, List, [], ◌∷◌, ◌++◌, length, Option, Some, None, refl, sym, ap, ◌∙◌, subst, append_assoc, pos}
+use Rattle.std.proofs.Common.{◌≡◌, ℕ, suc, List, [], ◌∷◌, ◌++◌, length, Option, refl, sym, ap, ◌∙◌, append_assoc, pos}
 use Rattle.std.specs.Prelude.{codes}
 use Rattle.pl_terms.specs.Trees.{Tree, count}
 use Rattle.pl_ops.specs.Tables.{Operators}
 use Rattle.text_model.specs.Grammar.{Parse, leaf, Item, operand, list_to, empty_list}
 use Rattle.text_model.specs.Reading.{code_list}
-use Rattle.pl_atoms.specs.declared.names.NameId.{NameId}
 use Rattle.pl_terms.specs.declared.cell.Cell.{Cell}
 use Rattle.pl_terms.specs.declared.cell.Cell.TheVariants.{Int, Name}
 use Rattle.pl_reader.specs.CodeTexts.{code_cells}
-use Rattle.pl_reader.specs.Stands.{id, behind, all_behind, outputs}
-use Rattle.pl_reader.specs.Standing.{AreNames, Steps, dots, base_out}
+use Rattle.pl_reader.specs.Stands.{id, behind, all_behind}
+use Rattle.pl_reader.specs.Standing.{AreNames, Steps, dots}
 use Rattle.pl_reader.proofs.Contexts.{list-out}
 use Rattle.pl_reader.specs.declared.machine.GrammarNames.{GrammarNames}
 use Rattle.pl_reader.specs.declared.machine.Entry.{Entry}
 use Rattle.pl_reader.specs.declared.machine.Context.{Context}
 use Rattle.pl_reader.specs.declared.machine.LastTerm.{LastTerm}
-use Rattle.pl_reader.specs.declared.machine.Stepped.{Stepped}
 use Rattle.pl_reader.specs.declared.machine.Stepped.TheVariants.{Fails, ToOperand, ToOperator}
 
 module _ (num : List ℕ → ℕ) (look : Operators) where

@@ -1,5 +1,5 @@
 -- What holds of each name of the tokens holds of each name of the term.
-use Rattle.std.proofs.Common.{◌≡◌, ℕ, zero, suc, ◌≤◌, List, [], ◌∷◌, ◌++◌, Bool, true, false, Option, Some, None, refl, sym, ap, ◌∙◌, subst, arith, ◌&&◌, if◌then◌else◌}
+use Rattle.std.proofs.Common.{◌≡◌, ℕ, zero, suc, ◌≤◌, List, [], ◌∷◌, ◌++◌, Bool, true, false, Option, Some, None, refl, sym, ap, subst, arith, ◌&&◌, if◌then◌else◌}
 use Rattle.std.specs.Prelude.{codes, nat_eq, nat_lt, ◌^◌}
 use Rattle.std.specs.Str.{chars}
 use Rattle.pl_terms.specs.Trees.{Tree, var, int, atom, comp, Trees, nil, cons, count}
@@ -7,7 +7,7 @@ use Rattle.pl_ops.specs.Tables.{Operators, same_text}
 use Rattle.pl_ops.specs.declared.op.Op.{Op as Operator}
 use Rattle.text_model.specs.Tokens.{Lexeme, name, quoted, variable, integer, text_codes, punctuation, stop, Token as ModelToken}
 use Rattle.text_model.specs.Grammar.{Bracket, round, curly, square, Item, operand, before, between, after, comma, bar, calls, opens, closes, Parse, leaf, grouped, braced, called, listed, listed_to, prefixed, joined, conjoined, postfixed, Arguments, one, more, yield, all_yield, meaning, all_meaning, list_to, empty_list, arity, IsGood, AreGood}
-use Rattle.text_model.specs.Reading.{Move, Place, at_operand, at_operator, is_call, is_closer, is_operator, is_punct, prefix_of, infix_of, postfix_of, first_of, leaf_move, name_move, minus_move, negative, bracket_move, operand_move, operator_named, operator_move, move, code_list, items_of, with_item, peek, peek_second, with_token, relabelled, Numbered}
+use Rattle.text_model.specs.Reading.{Move, Place, at_operand, at_operator, is_call, is_closer, is_operator, is_punct, prefix_of, infix_of, postfix_of, first_of, name_move, minus_move, bracket_move, operand_move, operator_move, move, code_list, items_of, with_item, peek, peek_second, Numbered}
 use Rattle.pl_reader.specs.Numbering.{Met, lexeme_at, met_after, numbered_from}
 use Rattle.pl_reader.specs.Reads.{IsKnown, IsNamed, AreKnown}
 use Rattle.pl_reader.proofs.TokenSteps.{numbered-step}

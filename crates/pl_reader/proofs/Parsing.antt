@@ -1,5 +1,5 @@
 -- Taking the items one after another.
-use Rattle.std.proofs.Common.{◌≡◌, ℕ, ◌+◌, ◌<◌, ◌≤◌, List, [], ◌∷◌, length, drop, Bool, true, false, Option, Some, None, refl, ap, ◌∙◌, subst, arith, length-append, length-drop}
+use Rattle.std.proofs.Common.{◌≡◌, ℕ, ◌<◌, ◌≤◌, List, [], ◌∷◌, length, Bool, true, false, Option, Some, None, refl, ap, ◌∙◌, subst, arith, length-append}
 use Rattle.text_model.specs.Grammar.{Parse, Item, max_priority}
 use Rattle.pl_reader.specs.Machine.{run, Frame, Context as Opened, within, close_all}
 use Rattle.pl_reader.specs.Standing.{contexts_of, context_of, StandsAfter, EndsWhole, Steps, Finishes}
@@ -9,7 +9,6 @@ use Rattle.pl_reader.specs.declared.machine.Context.{Context}
 use Rattle.pl_reader.specs.declared.machine.LastTerm.{LastTerm}
 use Rattle.pl_reader.specs.declared.machine.Stepped.{Stepped}
 use Rattle.pl_reader.specs.declared.machine.Stepped.TheVariants.{Fails, ToOperand, ToOperator}
-use Rattle.pl_reader.specs.declared.machine.ParseItem.{ParseItem}
 
 module _ (num : List ℕ → ℕ) where
   -- what an item does, where another function of the items after it is the same

@@ -1,11 +1,11 @@
 -- What reading takes of a run.
-use Rattle.std.proofs.Common.{◌≡◌, ℕ, zero, suc, ◌+◌, ◌<◌, ◌≤◌, List, [], ◌∷◌, ◌++◌, length, get_or, All, Bool, true, false, refl, sym, ap, ◌∙◌, subst, arith, length-append}
-use Rattle.text_model.specs.Tokens.{Lexeme, stop, is_stop, Token as ModelToken}
+use Rattle.std.proofs.Common.{◌≡◌, ℕ, zero, suc, ◌+◌, ◌<◌, List, [], ◌∷◌, ◌++◌, length, get_or, true, refl, ap, ◌∙◌, subst, arith, length-append}
+use Rattle.text_model.specs.Tokens.{is_stop, Token as ModelToken}
 use Rattle.pl_tokens.specs.declared.token.TokenKind.{TokenKind}
 use Rattle.pl_tokens.specs.declared.token.TokenKind.TheVariants.{Name, Quoted, Var, Int, Codes, Punct, End}
 use Rattle.pl_tokens.specs.declared.token.Token.{Token}
 use Rattle.pl_tokens.specs.Views.{kind_view, token_view, tokens_view}
-use Rattle.pl_tokens.specs.Facts.{IsLexeme, IsTokenBetween, IsRun}
+use Rattle.pl_tokens.specs.Facts.{IsLexeme, IsTokenBetween}
 use Rattle.pl_reader.specs.Runs.{IsRead, IsSmall, last_of, HasEnd}
 
 is_end : (k : TokenKind) → is_stop (kind_view k) ≡ true → k ≡ End

@@ -1,12 +1,11 @@
 -- The tokens of a run, one after another.
-use Rattle.std.proofs.Common.{◌≡◌, ℕ, zero, suc, ◌+◌, ◌-◌, ◌<◌, ◌≤◌, List, [], ◌∷◌, ◌++◌, length, map, take, drop, get_or, Bool, true, false, Option, Some, None, refl, sym, ap, ◌∙◌, subst, arith, drop-cons, length-drop, length-append}
+use Rattle.std.proofs.Common.{◌≡◌, ℕ, zero, suc, ◌+◌, ◌-◌, ◌<◌, ◌≤◌, List, [], ◌∷◌, ◌++◌, length, take, drop, get_or, true, false, Option, Some, None, refl, sym, ap, ◌∙◌, subst, arith, drop-cons, length-drop}
 use Rattle.std.proofs.lemmas.List.{get_or_default}
-use Rattle.std.proofs.Math.Seq.{take-length}
 use Rattle.std.proofs.Math.Numerals.{add-one}
 use Rattle.pl_ops.specs.Tables.{Operators}
-use Rattle.text_model.specs.Tokens.{Lexeme, name, quoted, variable, integer, text_codes, punctuation, stop, Token as ModelToken}
+use Rattle.text_model.specs.Tokens.{stop, Token as ModelToken}
 use Rattle.text_model.specs.Grammar.{Parse, Item}
-use Rattle.text_model.specs.Reading.{items_of, at_operand, at_operator, numbered, Numbered, peek, peek_second, relabelled, with_token}
+use Rattle.text_model.specs.Reading.{items_of, at_operand, at_operator, numbered, Numbered, peek, peek_second, relabelled}
 use Rattle.pl_tokens.specs.declared.token.TokenKind.{TokenKind}
 use Rattle.pl_tokens.specs.declared.token.TokenKind.TheVariants.{Name, Quoted, Var, Int, Codes, Punct, End}
 use Rattle.pl_tokens.specs.declared.token.Token.{Token}
@@ -18,14 +17,13 @@ use Rattle.pl_reader.specs.Machine.{parsed}
 use Rattle.pl_reader.specs.Moves.{KindIs, TokenIs, place_of}
 use Rattle.pl_reader.specs.Standing.{AreNames, Steps, Finishes}
 use Rattle.pl_reader.specs.Numbering.{Met, met, met_after, lexeme_at, numbered_from, IsPaired}
-use Rattle.pl_reader.specs.Reads.{Goes, Follows, Agrees, AreKnown, IsKnown, HasGrammar, run_parse, run_tokens, bound, Found}
+use Rattle.pl_reader.specs.Reads.{Goes, Follows, Agrees, AreKnown, IsKnown, HasGrammar, run_parse, bound, Found}
 use Rattle.pl_reader.proofs.TokenSteps.{numbered-step, lost}
 use Rattle.pl_reader.proofs.Tables.{front_itself, front_then, agrees_before, all_known_after, all_known_more, are_names, grammar_after}
 use Rattle.pl_reader.specs.declared.variables.Variables.{Variables}
 use Rattle.pl_reader.specs.declared.machine.GrammarNames.{GrammarNames}
 use Rattle.pl_reader.specs.declared.machine.Entry.{Entry}
 use Rattle.pl_reader.specs.declared.machine.Context.{Context}
-use Rattle.pl_reader.specs.declared.machine.Stepped.{Stepped}
 use Rattle.pl_reader.specs.declared.machine.Stepped.TheVariants.{Fails, ToOperand}
 use Rattle.pl_reader.specs.declared.tokens_taken.ReadState.{ReadState}
 

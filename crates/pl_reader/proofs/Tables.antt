@@ -1,11 +1,10 @@
 -- Tables of names: their numbers, and what stays where they grow.
-use Rattle.std.proofs.Common.{◌≡◌, ℕ, zero, suc, ◌<◌, List, [], ◌∷◌, ◌++◌, length, take, get_or, Bool, true, false, Option, Some, None, refl, sym, ap, ◌∙◌, subst, arith, if◌then◌else◌}
+use Rattle.std.proofs.Common.{◌≡◌, ℕ, zero, suc, List, [], ◌∷◌, ◌++◌, length, take, Bool, true, false, Some, refl, sym, ap, ◌∙◌, subst, if◌then◌else◌}
 use Rattle.std.specs.Prelude.{slice_get, codes}
 use Rattle.std.specs.List.{AllByRecursion, IsDistinct, list_any}
 use Rattle.std.proofs.lemmas.Slice.Eq.{bytes_eq-Decides}
 use Rattle.pl_atoms.specs.Names.{same_text, with_text, IsFront, AreDistinct}
 use Rattle.text_model.specs.Tokens.{Lexeme, name, quoted, variable, integer, text_codes, punctuation, stop, Token as ModelToken}
-use Rattle.pl_reader.specs.Stands.{id}
 use Rattle.pl_reader.specs.Standing.{AreNames}
 use Rattle.pl_reader.specs.Reads.{Agrees, IsNamed, IsKnown, AreKnown, HasGrammar}
 use Rattle.pl_reader.specs.declared.machine.GrammarNames.{GrammarNames}

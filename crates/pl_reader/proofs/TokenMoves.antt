@@ -1,10 +1,9 @@
 -- What a token does, from what the code found of it.
-use Rattle.std.proofs.Common.{◌≡◌, ℕ, ◌^◌, ◌≤◌, ◌<◌, zero, suc, List, Bool, true, false, ◌&&◌, ◌||◌, Option, Some, None, refl, sym, ap, ◌∙◌, subst, arith, if◌then◌else◌, ℤ, pos, negsuc, w64, to_z, of_z}
+use Rattle.std.proofs.Common.{◌≡◌, ℕ, List, Bool, true, false, ◌&&◌, ◌||◌, Option, Some, None, refl, sym, ap, ◌∙◌, subst, if◌then◌else◌}
 use Rattle.std.specs.Prelude.{codes, is_some}
-use Rattle.std.proofs.lemmas.Int.{to_z-of_z}
 use Rattle.pl_ops.specs.Tables.{Operators, same_text}
 use Rattle.pl_ops.specs.declared.op.Op.{Op as Operator}
-use Rattle.text_model.specs.Tokens.{Lexeme, name, quoted, variable, integer, text_codes, punctuation, stop, Token as ModelToken}
+use Rattle.text_model.specs.Tokens.{Lexeme, name, integer, punctuation, Token as ModelToken}
 use Rattle.text_model.specs.Grammar.{operand, before, calls}
 use Rattle.pl_terms.specs.Trees.{atom, int}
 use Rattle.text_model.specs.Reading.{Move, at_operand, at_operator, is_call, is_closer, prefix_of, infix_of, postfix_of, name_move, minus_move, negative, first_of, operand_move}

@@ -1,15 +1,15 @@
 -- What one token does to the reading of a run.
-use Rattle.std.proofs.Common.{◌≡◌, ℕ, zero, suc, List, [], ◌∷◌, Bool, true, false, Option, Some, None, refl, sym, ap, ◌∙◌, subst}
+use Rattle.std.proofs.Common.{◌≡◌, ℕ, zero, suc, List, ◌∷◌, Bool, true, false, Option, Some, None, refl, sym, ap, ◌∙◌, subst}
 use Rattle.std.specs.Str.{chars}
 use Rattle.pl_terms.specs.Trees.{Tree}
 use Rattle.pl_ops.specs.Tables.{Operators}
 use Rattle.text_model.specs.Tokens.{Lexeme, name, quoted, variable, integer, text_codes, punctuation, stop, Token as ModelToken}
 use Rattle.text_model.specs.Grammar.{Parse, Item, operand, list_to, empty_list}
-use Rattle.text_model.specs.Reading.{Move, Place, at_operand, at_operator, move, items_of, with_item, peek, peek_second, Numbered, with_token, relabelled, numbered, code_list, is_anonymous, number_of}
+use Rattle.text_model.specs.Reading.{Move, Place, at_operand, at_operator, move, items_of, with_item, peek, peek_second, Numbered, with_token, relabelled, numbered, code_list}
 use Rattle.pl_terms.specs.declared.cell.Cell.{Cell}
 use Rattle.pl_reader.specs.Standing.{Steps, ItemIs}
 use Rattle.pl_reader.specs.Moves.{MoveIs, SymbolIs, place_of}
-use Rattle.pl_reader.specs.Numbering.{Met, met_after, lexeme_at, numbered_from, known_number, met_with, number_at, with_variable}
+use Rattle.pl_reader.specs.Numbering.{Met, met_after, lexeme_at, numbered_from, known_number, with_variable}
 use Rattle.pl_reader.specs.Reads.{bound, Goes}
 use Rattle.pl_reader.specs.declared.machine.Entry.{Entry}
 use Rattle.pl_reader.specs.declared.machine.Context.{Context}

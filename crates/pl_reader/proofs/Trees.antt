@@ -1,20 +1,19 @@
 -- The tree of a run, and its cells.
-use Rattle.std.proofs.Common.{◌≡◌, ℕ, zero, suc, ◌<◌, ◌≤◌, List, [], ◌∷◌, ◌++◌, length, get_or, All, Option, Some, None, refl, sym, ap, ◌∙◌, subst, arith}
-use Rattle.std.specs.Prelude.{slice_get}
+use Rattle.std.proofs.Common.{◌≡◌, ℕ, zero, suc, ◌<◌, List, [], ◌∷◌, ◌++◌, length, get_or, Option, Some, None, refl, sym, ap, ◌∙◌, subst, arith}
 use Rattle.std.proofs.lemmas.Option.{slice_get_within, get_or_from_slice_get}
 use Rattle.pl_terms.specs.Trees.{Tree, var, int, atom, comp, Trees, nil, cons, count, renamed, all_renamed}
 use Rattle.pl_terms.specs.Cells.{cells, all_cells, IsCell, tree_of}
 use Rattle.pl_terms.specs.Forest.{tree_of-cells}
 use Rattle.pl_terms.specs.Order.{text_of, texts_of}
 use Rattle.pl_ops.specs.Tables.{Operators}
-use Rattle.text_model.specs.Grammar.{Parse, Item, Reads, max_priority, meaning, yield}
-use Rattle.text_model.specs.Reading.{items_of, at_operand, ReadsTokens}
+use Rattle.text_model.specs.Grammar.{Parse, Item, meaning}
+use Rattle.text_model.specs.Reading.{items_of, at_operand}
 use Rattle.pl_tokens.specs.declared.token.Token.{Token}
 use Rattle.pl_reader.specs.Runs.{body_of, end_of}
 use Rattle.pl_terms.specs.declared.cell.Cell.{Cell}
-use Rattle.pl_terms.specs.declared.cell.Cell.TheVariants.{Var, Int, Name, Comp}
+use Rattle.pl_terms.specs.declared.cell.Cell.TheVariants.{Comp}
 use Rattle.pl_reader.specs.Machine.{parsed}
-use Rattle.pl_reader.specs.Stands.{id, behind, output}
+use Rattle.pl_reader.specs.Stands.{id, behind}
 use Rattle.pl_reader.specs.Turning.{in_front, all_in_front}
 use Rattle.pl_reader.specs.Reads.{Agrees, IsNamed, AreKnown, HasGrammar, Found, ReadsRun, IsWithin, AreWithin, run_parse, run_tokens, bound}
 use Rattle.pl_atoms.specs.Names.{AreDistinct}

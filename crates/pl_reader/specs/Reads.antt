@@ -1,5 +1,5 @@
 -- How far a run has been read, and what its tree is.
-use Rattle.std.specs.Prelude.{◌≡◌, ℕ, ◌<◌, ◌≤◌, List, [], ◌∷◌, length, Bool, Option, Some, None, codes, slice_get}
+use Rattle.std.specs.Prelude.{◌≡◌, ℕ, ◌<◌, ◌≤◌, List, [], ◌∷◌, Option, Some, None, codes, slice_get}
 use Rattle.std.specs.List.{AllByRecursion}
 use Rattle.pl_terms.specs.Trees.{Tree, var, int, atom, comp, Trees, nil, cons, count}
 use Rattle.pl_ops.specs.Tables.{Operators}

@@ -1,12 +1,10 @@
 -- How the parser's stacks and output stand for the machine's contexts and frames. The output has the finished terms' cells,
 -- each operator after its operands; num gives a name's number.
 use Rattle.std.specs.Prelude.{◌≡◌, nat_le, ℕ, zero, suc, List, [], ◌∷◌, ◌++◌, length, Option, Some, None, Bool, true, false, codes}
-use Rattle.pl_terms.specs.Trees.{Tree}
-use Rattle.pl_terms.specs.Trees.{renamed}
 use Rattle.pl_terms.specs.Cells.{cells}
 use Rattle.pl_ops.specs.declared.op.Op.{Op as Operator}
-use Rattle.text_model.specs.Grammar.{Parse, postfixed, grouped, braced, called, listed, listed_to, comma_op, priority, weight, Bracket, round, curly, square, max_priority, argument_priority, max_arity, arity, one, Reads, Item, operand, before, between, after, comma, bar, calls, opens, closes}
-use Rattle.pl_reader.specs.Machine.{run, parsed, Frame, waits_prefix, waits_joined, waits_conjoined, close, close_all, closed_left, within, after_comma, after_bar, waits_right, closing, when, with_front, Open, in_round, in_curly, in_arguments, in_tail, Head, of_call, of_list, Context as Opened}
+use Rattle.text_model.specs.Grammar.{Parse, postfixed, grouped, braced, called, listed, listed_to, comma_op, priority, weight, Bracket, round, curly, square, max_priority, argument_priority, max_arity, arity, one, Item, operand, before, between, after, comma, bar, calls, opens, closes}
+use Rattle.pl_reader.specs.Machine.{run, Frame, waits_prefix, waits_joined, waits_conjoined, close, close_all, closed_left, within, after_comma, after_bar, waits_right, closing, when, with_front, Open, in_round, in_curly, in_arguments, in_tail, Head, of_call, of_list, Context as Opened}
 use Rattle.pl_reader.specs.Stands.{id, behind, output, left_output, outputs}
 use Rattle.pl_atoms.specs.declared.names.NameId.{NameId}
 use Rattle.pl_terms.specs.declared.cell.Cell.{Cell}

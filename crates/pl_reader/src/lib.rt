@@ -12,6 +12,3 @@ mod variables;
 
 pub use laws::{one_tree, one_tree_of_tokens, reading_is_decided, root_is_told};
 pub use reading::{ReadFault, read};
-
-#[cfg(test)]
-mod tests;

@@ -1,5 +1,5 @@
 -- A linked program stays in order as it grows.
-use Rattle.std.proofs.Common.{◌≡◌, ℕ, zero, suc, ◌+◌, ◌<◌, ◌≤◌, ◌^◌, ◌⊎◌, inl, inr, Bool, true, false, cond, ◌&&◌, ◌||◌, List, [], ◌∷◌, ◌++◌, map, length, get_or, nat_eq, Option, None, Some, find, refl, sym, ap, subst, ◌∙◌, if◌then◌else◌, arith, eq-eqb}
+use Rattle.std.proofs.Common.{◌≡◌, ℕ, zero, suc, ◌+◌, ◌<◌, ◌≤◌, ◌⊎◌, inl, inr, Bool, true, false, cond, ◌&&◌, ◌||◌, List, [], ◌∷◌, ◌++◌, length, get_or, nat_eq, None, Some, find, refl, sym, ap, subst, ◌∙◌, arith, eq-eqb}
 use Rattle.std.specs.List.{list_any, IsDistinct}
 use Rattle.std.specs.Option.{option_map}
 use Rattle.std.specs.Prelude.{codes}
@@ -15,8 +15,8 @@ use Rattle.pl_terms.specs.Order.{texts_of}
 use Rattle.unit_model.specs.Facts.{Indicator}
 use Rattle.unit_model.specs.Validity.{is_converted}
 use Rattle.goal_model.specs.Program.{Clause}
-use Rattle.directive_forms.proofs.NameBounds.{texts_of-front, NamesBelow-more}
-use Rattle.pl_store.specs.Linked.{Linked, Procedure, Entered, Row, empty, same_indicator, is_row, is_procedure, is_system, is_module, visible_in, procedure_at, no_procedure, no_clause, with_number, with_names, with_module, with_procedure, with_clause, with_row}
+use Rattle.term_walk.proofs.NameBounds.{texts_of-front, NamesBelow-more}
+use Rattle.pl_store.specs.Linked.{Linked, Procedure, StoredClause, Row, empty, same_indicator, is_row, is_procedure, is_system, is_module, visible_in, procedure_at, no_procedure, no_clause, with_number, with_names, with_module, with_procedure, with_clause, with_row}
 use Rattle.pl_store.specs.Rules.{IsExisting, IsNewProcedure, HasArity, IsClauseOf, IsUnseen}
 use Rattle.pl_store.specs.Facts.{EachAt, AreApart, no_row, SameProcedure, SameLookup, IsDefined, IsEntered, IsVisible, IsLinked}
 
@@ -206,12 +206,12 @@ procedure-added l p h home new name modes =
 
 -- ---- clauses and rows
 
-clause-same : (l : Linked) (e : Entered) (p : ℕ) (c : Clause ℕ) → IsClauseOf l p c → IsClauseOf (with_clause l e) p c
+clause-same : (l : Linked) (e : StoredClause) (p : ℕ) (c : Clause ℕ) → IsClauseOf l p c → IsClauseOf (with_clause l e) p c
 clause-same l e p c k = record { head = k.head; head_names = k.head_names; body_names = k.body_names; converted = k.converted; numbered = k.numbered; width = k.width }
 
 pub clause-added : (l : Linked) (p : ℕ) (c : Clause ℕ) → IsLinked l → p < length l.procedures → IsClauseOf l p c → IsLinked (with_clause l (record { procedure = p; clause = c }))
 clause-added l p c h lt k =
-    let e : Entered = record { procedure = p; clause = c } in
+    let e : StoredClause = record { procedure = p; clause = c } in
     record {
       names = h.names;
       modules = h.modules;

@@ -1,23 +1,22 @@
 -- What `next_place` passes over, and the clauses of a procedure of a linked program.
-use Rattle.std.proofs.Common.{◌≡◌, ℕ, zero, suc, ◌+◌, ◌-◌, ◌<◌, ◌≤◌, Bool, true, false, cond, ◌&&◌, ◌||◌, not, List, [], ◌∷◌, ◌++◌, map, filter, length, take, drop, get_or, nat_eq, nat_lt, Option, None, Some, position, find, refl, sym, ap, subst, ◌∙◌, arith}
-use Rattle.std.specs.List.{list_any, position_or_len}
+use Rattle.std.proofs.Common.{◌≡◌, ℕ, zero, suc, ◌+◌, ◌-◌, ◌<◌, Bool, true, false, cond, ◌&&◌, ◌||◌, not, List, [], ◌∷◌, ◌++◌, map, filter, length, take, drop, get_or, nat_eq, nat_lt, Option, None, Some, position, find, refl, sym, ap, subst, ◌∙◌, arith}
+use Rattle.std.specs.List.{position_or_len}
 use Rattle.std.specs.Option.{option_map}
 use Rattle.std.proofs.lemmas.Option.{same_Some}
 use Rattle.std.proofs.Math.Seq.{drop-cons}
-use Rattle.std.proofs.lemmas.Bool.{false≢true, eqb-true, eq-eqb}
+use Rattle.std.proofs.lemmas.Bool.{false≢true, eqb-true}
 use Rattle.std.proofs.lemmas.Bool.Decides.{nat_tests}
 use Rattle.std.proofs.lemmas.List.{take-append-drop, drop-drop, get_or-drop, get_or-take, map-append, length-take, length-drop}
 use Rattle.std.proofs.lemmas.List.Elements.{filter-append}
 use Rattle.unit_model.specs.Facts.{Indicator}
-use Rattle.goal_model.specs.Program.{Clause}
 use Rattle.goal_model.specs.Choices.{Key, fits}
-use Rattle.pl_store.specs.Linked.{Linked, Entered, Procedure, no_clause, Row, no_procedure, procedure_at, may_match, is_procedure, same_indicator, is_row, visible_in}
+use Rattle.pl_store.specs.Linked.{Linked, StoredClause, no_clause, Row, no_procedure, procedure_at, may_match, is_procedure, same_indicator, is_row, visible_in}
 use Rattle.pl_store.specs.Places.{next_place}
 use Rattle.pl_store.specs.Facts.{IsLinked, no_row}
-use Rattle.pl_store.specs.Runs.{program_of, number_of, clauses_from, modes_from}
+use Rattle.pl_store.specs.Runs.{number_of, clauses_from, modes_from}
 use Rattle.pl_store.specs.Walks.{clauses_of, clauses_from_place, any_fits, clause_of, StopsAt, Stops, WalksClauses, ProceduresFound, VisibleThere}
 use Rattle.pl_store.proofs.PlaceLaws.{next_place-none, next_place-some, Next}
-use Rattle.pl_store.proofs.FactLaws.{names-grow, same-is}
+use Rattle.pl_store.proofs.FactLaws.{same-is}
 
 both : (a b : Bool) → a && b ≡ true → (a ≡ true) × (b ≡ true)
 both true b h = (refl, h)
@@ -29,7 +28,7 @@ one-more i = omega arith
 -- ---- what is passed over
 
 module _ (p : ℕ) (key : Key ℕ) where
-  none-fits : (xs : List Entered) → ((m : ℕ) → m < length xs → may_match p key (get_or xs m no_clause) ≡ true → ⊥) → any_fits key (clauses_of p xs) ≡ false
+  none-fits : (xs : List StoredClause) → ((m : ℕ) → m < length xs → may_match p key (get_or xs m no_clause) ≡ true → ⊥) → any_fits key (clauses_of p xs) ≡ false
   none-fits [] h = refl
   none-fits (x ∷ xs) h = go (nat_eq p x.procedure) (fits nat_eq key x.clause.head) refl (h 0 (omega arith)) (none-fits xs (λ m lt. h (suc m) (omega (arith, lt))))
     where
@@ -39,15 +38,15 @@ module _ (p : ℕ) (key : Key ℕ) where
       go true false e never rest = ap (λ c. c || any_fits key (clauses_of p xs)) e ∙ rest
       go false b e never rest = rest
 
-  clauses-append : (xs ys : List Entered) → clauses_of p (xs ++ ys) ≡ clauses_of p xs ++ clauses_of p ys
+  clauses-append : (xs ys : List StoredClause) → clauses_of p (xs ++ ys) ≡ clauses_of p xs ++ clauses_of p ys
   clauses-append xs ys =
       ap (map (λ c. c.clause)) (filter-append (λ c. nat_eq p c.procedure) xs ys)
       ∙ map-append (λ c. c.clause) (filter (λ c. nat_eq p c.procedure) xs) (filter (λ c. nat_eq p c.procedure) ys)
 
-  clauses-first : (x : Entered) (xs : List Entered) → nat_eq p x.procedure ≡ true → clauses_of p (x ∷ xs) ≡ x.clause ∷ clauses_of p xs
+  clauses-first : (x : StoredClause) (xs : List StoredClause) → nat_eq p x.procedure ≡ true → clauses_of p (x ∷ xs) ≡ x.clause ∷ clauses_of p xs
   clauses-first x xs e = ap (λ b. map (λ c. c.clause) (cond b (x ∷ filter (λ c. nat_eq p c.procedure) xs) (filter (λ c. nat_eq p c.procedure) xs))) e
 
-  module _ (cs : List Entered) (k : ℕ) where
+  module _ (cs : List StoredClause) (k : ℕ) where
     none-left : next_place (may_match p key) k cs ≡ None → any_fits key (clauses_from_place cs p k) ≡ false
     none-left e = none-fits (drop k cs) (λ m lt t.
         next_place-none (may_match p key) k cs e (k + m) no_clause (omega arith) (omega (arith, lt, length-drop k cs)) (ap (may_match p key) (sym (get_or-drop k cs m no_clause)) ∙ t))

@@ -1,7 +1,7 @@
 -- What holds of each linked program.
 use Rattle.std.specs.Prelude.{◌≡◌, ℕ, ◌<◌, List, length, slice_index_or}
 use Rattle.pl_atoms.specs.Names.{AreDistinct, IsFront}
-use Rattle.pl_store.specs.Linked.{Linked, Procedure, Entered, Row, no_procedure, no_clause, procedure_at, with_names}
+use Rattle.pl_store.specs.Linked.{Linked, Procedure, StoredClause, Row, no_procedure, no_clause, procedure_at, with_names}
 use Rattle.pl_store.specs.Rules.{IsExisting, HasArity, IsClauseOf}
 
 -- of each item; `d` stands past the end of the list
@@ -28,7 +28,7 @@ pub record IsDefined (l : Linked) (p : Procedure) : Type 0 where
   pub name : p.indicator.name < length l.names
   pub modes : HasArity p.indicator.arity p.modes
 
-pub record IsEntered (l : Linked) (c : Entered) : Type 0 where
+pub record IsEntered (l : Linked) (c : StoredClause) : Type 0 where
   pub procedure : c.procedure < length l.procedures
   pub clause : IsClauseOf l c.procedure c.clause
 

@@ -19,7 +19,7 @@ pub record Procedure : Type 0 where
   pub modes : Option (List Bool)
 
 -- a clause, with the number of its procedure
-pub record Entered : Type 0 where
+pub record StoredClause : Type 0 where
   pub procedure : ℕ
   pub clause : Clause ℕ
 
@@ -34,7 +34,7 @@ pub record Linked : Type 0 where
   pub names : List (List ℕ)
   pub modules : List ℕ
   pub procedures : List Procedure
-  pub clauses : List Entered
+  pub clauses : List StoredClause
   pub rows : List Row
 
 -- ---- look-ups
@@ -62,13 +62,13 @@ is_module l m = list_any (nat_eq m) l.modules
 abbrev pub no_procedure : Procedure
 no_procedure = record { home = 0; indicator = record { name = 0; arity = 0 }; modes = None }
 
-abbrev pub no_clause : Entered
+abbrev pub no_clause : StoredClause
 no_clause = record { procedure = 0; clause = record { width = 0; head = Rattle.pl_terms.specs.Trees.var 0; body = Rattle.pl_terms.specs.Trees.var 0 } }
 
 abbrev pub procedure_at : Linked → ℕ → Procedure
 procedure_at l p = slice_index_or l.procedures p no_procedure
 
-abbrev pub clause_at : Linked → ℕ → Entered
+abbrev pub clause_at : Linked → ℕ → StoredClause
 clause_at l c = slice_index_or l.clauses c no_clause
 
 -- a key as what is known of a goal's first argument
@@ -79,7 +79,7 @@ key_view (K.Name s) = name s.0
 key_view (K.Comp s k) = compound s.0 k
 
 -- a clause of the procedure whose first argument may have a unifier with an argument of this key
-abbrev pub may_match : ℕ → Key ℕ → Entered → Bool
+abbrev pub may_match : ℕ → Key ℕ → StoredClause → Bool
 may_match p key c = nat_eq p c.procedure && fits nat_eq key c.clause.head
 
 -- ---- how a program grows
@@ -102,7 +102,7 @@ with_module l text m = record l {
 abbrev pub with_procedure : Linked → Procedure → Linked
 with_procedure l p = record l { procedures = l.procedures ++ p ∷ [] }
 
-abbrev pub with_clause : Linked → Entered → Linked
+abbrev pub with_clause : Linked → StoredClause → Linked
 with_clause l c = record l { clauses = l.clauses ++ c ∷ [] }
 
 abbrev pub with_row : Linked → Row → Linked
@@ -126,7 +126,7 @@ clause_code =
     code_by (ℕ × (Tree ℕ × Tree ℕ)) (coded× coded_ℕ (coded× tree_code tree_code))
     (λ c. (c.width, (c.head, c.body))) (λ p. record { width = p.0; head = p.1.0; body = p.1.1 }) (λ _. refl)
 
-abbrev pub entered_code : Coded Entered
+abbrev pub entered_code : Coded StoredClause
 entered_code =
     code_by (ℕ × Clause ℕ) (coded× coded_ℕ clause_code) (λ c. (c.procedure, c.clause)) (λ p. record { procedure = p.0; clause = p.1 }) (λ _. refl)
 
@@ -137,7 +137,7 @@ row_code =
 
 abbrev pub linked_code : Coded Linked
 linked_code =
-    code_by (List (List ℕ) × (List ℕ × (List Procedure × (List Entered × List Row))))
+    code_by (List (List ℕ) × (List ℕ × (List Procedure × (List StoredClause × List Row))))
     (coded× (coded_list (coded_list coded_ℕ)) (coded× (coded_list coded_ℕ) (coded× (coded_list procedure_code) (coded× (coded_list entered_code) (coded_list row_code)))))
     (λ l. (l.names, (l.modules, (l.procedures, (l.clauses, l.rows)))))
     (λ p. record { names = p.0; modules = p.1.0; procedures = p.1.1.0; clauses = p.1.1.1.0; rows = p.1.1.1.1 })

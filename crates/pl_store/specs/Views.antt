@@ -1,7 +1,7 @@
 -- How the fields of a program stand for a linked program.
 use Rattle.std.specs.Prelude.{◌≡◌, ℕ, List, map, length, Option, None, Some}
 use Rattle.unit_model.specs.Views.{ind_view}
-use Rattle.pl_store.specs.Linked.{Linked, Procedure as Defined, Entered, Row}
+use Rattle.pl_store.specs.Linked.{Linked, Procedure as Defined, StoredClause, Row}
 use Rattle.pl_store.specs.Tags.{Indexed, head_class}
 use Rattle.pl_store.specs.declared.index.Class.{Class}
 use Rattle.pl_store.specs.declared.index.Class.TheVariants as C
@@ -15,7 +15,7 @@ use Rattle.pl_store.specs.declared.tables.RowKey.{RowKey}
 abbrev pub procedure_view : Procedure → Defined
 procedure_view p = record { home = p.home.0; indicator = ind_view p.ind; modes = p.modes }
 
-abbrev pub clause_view : Clause → Entered
+abbrev pub clause_view : Clause → StoredClause
 clause_view c = record { procedure = c.proc.0; clause = record { width = c.vars; head = c.head; body = c.body } }
 
 abbrev pub row_view : RowKey × ℕ → Row

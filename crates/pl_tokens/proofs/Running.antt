@@ -1,12 +1,10 @@
 -- Taking one token after another.
-use Rattle.std.proofs.Common.{◌≡◌, ℕ, zero, suc, ◌≤◌, ◌<◌, List, [], ◌∷◌, ◌++◌, length, drop, Bool, true, false, refl, sym, ap, ◌∙◌, arith, subst, length-drop, if◌then◌else◌}
-use Rattle.std.proofs.lemmas.Bool.{cond-true, cond-false}
+use Rattle.std.proofs.Common.{◌≡◌, ℕ, zero, suc, ◌≤◌, ◌<◌, List, [], ◌∷◌, ◌++◌, length, drop, Bool, true, false, refl, sym, ap, ◌∙◌, arith, subst, length-drop, if◌then◌else◌, nat_eq, get_or, Result, Option}
+use Rattle.std.proofs.lemmas.Bool.{cond-true, cond-false, ne_eqb}
 use Rattle.text_model.specs.Tokens.{Token, Placed, placed, bad_at, none_left, placed_at, is_stop, is_minus, Run, run, run_fault, cut_short, ended, run_from, after_token}
 use Rattle.pl_tokens.specs.Views.{token_view, tokens_view}
 use Rattle.pl_tokens.specs.Runs.{after_all, RunGives, fault_run}
 use Rattle.pl_tokens.specs.declared.token.Token.{Token as CodeToken}
-use Rattle.std.proofs.lemmas.Bool.{ne_eqb}
-use Rattle.std.proofs.Common.{nat_eq, get_or, Result, Option}
 use Rattle.pl_tokens.specs.declared.token_reader.PlacedRun.{PlacedRun}
 use Rattle.pl_tokens.specs.declared.token.TokenFault.{TokenFault}
 

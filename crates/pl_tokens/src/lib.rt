@@ -11,6 +11,3 @@ mod token_reader;
 
 pub use token::{Token, TokenFault, TokenKind, TokenRun};
 pub use token_reader::Tokens;
-
-#[cfg(test)]
-mod tests;

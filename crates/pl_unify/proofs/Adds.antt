@@ -3,8 +3,7 @@ use Rattle.std.proofs.Common.{◌≡◌, ℕ, zero, suc, ◌+◌, ◌-◌, ◌<�
 use Rattle.std.proofs.lemmas.List.{length_push, take_at, length-take-le, get_or-take, length-append, get_or_append_left, get_or-append_right, take_all, get_or_push}
 use Rattle.std.proofs.lemmas.Bool.{cases_lt}
 use Rattle.pl_terms.specs.Trees.{var}
-use Rattle.run_model.specs.Substitution.{occurs}
-use Rattle.run_model.specs.Substitution.{apply}
+use Rattle.unifier_model.specs.Substitution.{occurs, apply}
 use Rattle.pl_unify.specs.declared.word.Word.{Word}
 use Rattle.pl_unify.specs.declared.word.Word.TheVariants.{Var, Int, Name, Comp}
 use Rattle.pl_unify.specs.Words.{word_tree, bases, bound_onto, Link, no_link, no_word, IsFree, WordIn}

@@ -3,7 +3,7 @@ use Rattle.std.proofs.Common.{◌≡◌, ◌∙◌, ℕ, zero, suc, ◌+◌, ◌
 use Rattle.std.proofs.lemmas.List.{append-nil, drop_more}
 use Rattle.pl_atoms.specs.declared.names.NameId.{NameId}
 use Rattle.pl_terms.specs.Trees.{Tree, var}
-use Rattle.run_model.specs.Unifier.Solved.{solved}
+use Rattle.unifier_model.specs.Unifier.Solved.{solved}
 use Rattle.pl_unify.specs.declared.word.Word.{Word}
 use Rattle.pl_unify.specs.declared.word.Word.TheVariants.{Var, Int, Name, Comp}
 use Rattle.pl_unify.specs.declared.code.CodeWord.{CodeWord}

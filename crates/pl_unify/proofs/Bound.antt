@@ -3,15 +3,14 @@ use Rattle.std.proofs.Common.{◌≡◌, ◌≢◌, ℕ, zero, suc, ◌+◌, ◌
 use Rattle.std.proofs.lemmas.List.{length_push, take_at, length-take-le, take-append-le, get_or-take, get_or_append_left, take_all, get_or_push, map_push, get_or-set_same, get_or-set_other, length-set, take-take}
 use Rattle.std.proofs.lemmas.Bool.{cases_lt, cases_eq, eqb-false}
 use Rattle.pl_terms.specs.Trees.{Tree, var}
-use Rattle.run_model.specs.Substitution.{occurs}
-use Rattle.run_model.specs.Substitution.{apply}
+use Rattle.unifier_model.specs.Substitution.{occurs, apply}
 use Rattle.pl_unify.specs.declared.word.Word.{Word}
 use Rattle.pl_unify.specs.declared.word.Word.TheVariants.{Var}
 use Rattle.pl_unify.specs.Words.{bases, Link, link, no_link, no_word, IsFree, WordIn}
 use Rattle.pl_unify.specs.State.{State, IsStore, LinkOk, LinkIn, bound, tree_of_word, links_of, IsStoreInside, FreeAreOwn, Binds, IsUnbindable, IsMark, state_at}
 use Rattle.pl_unify.specs.declared.store.Mark.{Mark}
 use Rattle.pl_unify.proofs.Grown.{bound_onto-push}
-use Rattle.run_model.proofs.Replaced.{apply-append}
+use Rattle.unifier_model.proofs.Replaced.{apply-append}
 use Rattle.pl_unify.proofs.Linked.{free_head}
 use Rattle.pl_unify.proofs.Follow.{inside, length-links_of}
 use Rattle.pl_unify.proofs.Adds.{links_of-same, links_of-var, trail-low}

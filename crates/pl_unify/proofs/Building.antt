@@ -5,14 +5,13 @@ use Rattle.std.proofs.lemmas.Bool.{cases_lt}
 use Rattle.std.proofs.Math.Seq.{set-append_seam}
 use Rattle.pl_atoms.specs.declared.names.NameId.{NameId}
 use Rattle.pl_terms.specs.Trees.{Tree, var, comp}
-use Rattle.run_model.specs.Substitution.{raise, occurs}
+use Rattle.unifier_model.specs.Substitution.{raise, occurs, apply}
 use Rattle.pl_unify.specs.Prefix.{trees}
 use Rattle.pl_unify.proofs.PrefixLaws.{trees-raise}
 use Rattle.pl_unify.specs.declared.word.Word.{Word}
 use Rattle.pl_unify.specs.declared.word.Word.TheVariants.{Var, Comp}
 use Rattle.pl_unify.specs.declared.code.CodeWord.{CodeWord}
 use Rattle.pl_unify.specs.declared.code.CodeWord.TheVariants as K
-use Rattle.run_model.specs.Substitution.{apply}
 use Rattle.pl_unify.specs.Words.{word_tree, bases, no_word, IsFree, WordIn, link}
 use Rattle.pl_unify.specs.State.{State, IsStore, base, bound, tree_of_word, links_of, IsStoreInside, Grows, Binds}
 use Rattle.pl_unify.proofs.StoreLaws.{Extends-trans}

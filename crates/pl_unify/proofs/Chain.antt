@@ -1,10 +1,9 @@
 -- Equations in front of others: their unifier first, then what is left of the others.
 use Rattle.std.proofs.Common.{◌≡◌, ℕ, List, [], ◌∷◌, ◌++◌, refl, ap, sym, subst, Option, Some, None}
 use Rattle.pl_terms.specs.Trees.{Tree, Trees, var, nil, cons, comp}
-use Rattle.run_model.specs.Substitution.{replace}
-use Rattle.run_model.specs.Substitution.{apply}
-use Rattle.run_model.specs.Unifier.{Solved, replaced, pairs, binding}
-use Rattle.run_model.specs.Unifier.Solved.{solved, same, higher_left, higher_right, left, right, left_inside, right_inside, parts, clash}
+use Rattle.unifier_model.specs.Substitution.{replace, apply}
+use Rattle.unifier_model.specs.Unifier.{Solved, replaced, pairs, binding}
+use Rattle.unifier_model.specs.Unifier.Solved.{solved, same, higher_left, higher_right, left, right, left_inside, right_inside, parts, clash}
 use Rattle.pl_unify.specs.Match.{applied, after}
 
 pub after-none : (r : Option (List (ℕ × Tree ℕ))) → after [] r ≡ r

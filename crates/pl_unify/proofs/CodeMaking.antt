@@ -6,10 +6,8 @@ use Rattle.pl_atoms.specs.declared.names.NameId.{NameId}
 use Rattle.pl_terms.specs.declared.cell.Cell.{Cell}
 use Rattle.pl_terms.specs.declared.cell.Cell.TheVariants as C
 use Rattle.pl_terms.specs.Cells.{IsCell}
-use Rattle.pl_unify.specs.Prefix.{Has}
+use Rattle.pl_unify.specs.Prefix.{Has, trees, build, with_cell}
 use Rattle.pl_terms.specs.Trees.{Tree, var, comp}
-use Rattle.pl_unify.specs.Prefix.{trees}
-use Rattle.pl_unify.specs.Prefix.{build, with_cell}
 use Rattle.pl_unify.proofs.PrefixLaws.{Enough, Enough-drop}
 use Rattle.pl_unify.specs.declared.word.Word.{Word}
 use Rattle.pl_unify.specs.declared.word.Word.TheVariants as W

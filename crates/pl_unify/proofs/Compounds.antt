@@ -3,8 +3,8 @@ use Rattle.std.proofs.Common.{◌≡◌, ◌∙◌, ℕ, zero, suc, ◌+◌, ◌
 use Rattle.std.proofs.lemmas.List.{map-append, drop_all, length-append, take-map, take_all, get_or_push}
 use Rattle.pl_atoms.specs.declared.names.NameId.{NameId}
 use Rattle.pl_terms.specs.Trees.{Tree, var, comp}
-use Rattle.run_model.specs.Substitution.{apply}
-use Rattle.run_model.proofs.Replaced.{apply-comp}
+use Rattle.unifier_model.specs.Substitution.{apply}
+use Rattle.unifier_model.proofs.Replaced.{apply-comp}
 use Rattle.pl_unify.specs.declared.word.Ref.{Ref}
 use Rattle.pl_unify.specs.declared.word.Word.{Word}
 use Rattle.pl_unify.specs.declared.word.Word.TheVariants.{Comp}

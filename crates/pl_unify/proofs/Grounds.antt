@@ -1,27 +1,25 @@
 -- Notes of blocks without unbound variables, and the walk that makes them.
 use Rattle.std.proofs.Common.{◌≡◌, ◌≢◌, ℕ, zero, suc, ◌+◌, ◌-◌, ◌<◌, ◌≤◌, List, [], ◌∷◌, ◌++◌, take, drop, length, get_or, set, refl, ap, ◌∙◌, sym, subst, Bool, true, false, arith, ◌||◌, ◌⊎◌, inl, inr, reverse, nat_eq}
-use Rattle.std.proofs.lemmas.List.{append-nil, length_push, length-append, take-append-drop, take-append-le, take-take, get_or-take, length-take-le, get_or_append_left, get_or_push, drop_more, reverse-append, take_all}
-use Rattle.std.proofs.lemmas.List.{get_or-set_same, get_or-set_other}
+use Rattle.std.proofs.lemmas.List.{append-nil, length_push, length-append, take-append-drop, take-append-le, take-take, get_or-take, length-take-le, get_or_append_left, get_or_push, drop_more, reverse-append, take_all, get_or-set_same, get_or-set_other}
 use Rattle.std.proofs.lemmas.Bool.{cases_lt, cases_eq}
 use Rattle.pl_atoms.specs.declared.names.NameId.{NameId}
 use Rattle.pl_terms.specs.Trees.{Tree, var}
-use Rattle.run_model.specs.Substitution.{occurs, occurs_any, size, sizes}
+use Rattle.unifier_model.specs.Substitution.{occurs, occurs_any, size, sizes, apply}
 use Rattle.pl_unify.specs.Prefix.{trees}
 use Rattle.pl_unify.specs.declared.word.Word.{Word}
 use Rattle.pl_unify.specs.declared.word.Word.TheVariants as W
 use Rattle.pl_unify.specs.declared.store.Mark.{Mark}
 use Rattle.pl_unify.specs.declared.store.notes.Step.{Step}
 use Rattle.pl_unify.specs.declared.store.notes.Step.TheVariants.{Visit, Done}
-use Rattle.run_model.specs.Substitution.{apply}
 use Rattle.pl_unify.specs.Words.{Link, bases, bound_onto, IsFree, WordIn}
 use Rattle.pl_unify.specs.State.{State, IsStore, IsMark, state_at, base, bound, tree_at, places, shape, tree_of_word}
 use Rattle.pl_unify.specs.Notes.{IsGround, GroundBlock, GroundThen, Noted, InOrder, IsNotes, Forgotten, no_note, visits, StepsIn, visit_trees, Honest, Clears, ClearBlock, IsPassed, Entered}
-use Rattle.run_model.proofs.Replaced.{replace-absent, apply-append}
+use Rattle.unifier_model.proofs.Replaced.{replace-absent, apply-append}
 use Rattle.pl_unify.proofs.Grown.{bases-append, bases-begins, length-bases_nil, bound_onto-append, bound_onto-begins}
 use Rattle.pl_unify.proofs.Adds.{bound-more}
 use Rattle.pl_unify.proofs.Walk.{tree_at-places, occurs_any-append}
 use Rattle.pl_unify.proofs.Shapes.{length-places, tree_of_word-shape}
-use Rattle.run_model.proofs.MguProofs.{size_pos}
+use Rattle.unifier_model.proofs.MguProofs.{size_pos}
 use Rattle.pl_unify.proofs.Low.{Absent, occurs_any-trees}
 
 -- a tree without variables stays

@@ -3,7 +3,7 @@ use Rattle.std.proofs.Common.{◌≡◌, ℕ, suc, ◌+◌, ◌<◌, ◌≤◌, 
 use Rattle.std.proofs.lemmas.List.{append-nil, length_push, take_at, take-append-drop, length-take-le, take-append-le, drop-append-le, length-drop}
 use Rattle.pl_terms.specs.Trees.{Tree, comp}
 use Rattle.pl_unify.specs.Prefix.{trees}
-use Rattle.run_model.specs.Substitution.{apply}
+use Rattle.unifier_model.specs.Substitution.{apply}
 use Rattle.pl_unify.specs.declared.word.Word.{Word}
 use Rattle.pl_unify.specs.declared.word.Word.TheVariants.{Var, Int, Name, Comp}
 use Rattle.pl_unify.specs.Words.{word_tree, bases, bound_onto, Link, no_link, WordIn}

@@ -2,11 +2,10 @@
 use Rattle.std.proofs.Common.{◌≡◌, ℕ, suc, ◌+◌, ◌<◌, ◌≤◌, List, [], ◌∷◌, ◌++◌, take, drop, length, get_or, refl, ap, ◌∙◌, sym, Bool, true, false, nat_eq, arith, if◌then◌else◌}
 use Rattle.std.proofs.lemmas.List.{take-append-drop, drop_more}
 use Rattle.pl_terms.specs.Trees.{Tree, var}
-use Rattle.run_model.specs.Substitution.{replace}
-use Rattle.run_model.specs.Substitution.{apply}
+use Rattle.unifier_model.specs.Substitution.{replace, apply}
 use Rattle.pl_unify.specs.Words.{word_tree, bound_onto, Link, no_link, place_of, IsFree}
 use Rattle.pl_unify.specs.State.{LinkOk}
-use Rattle.run_model.proofs.Replaced.{replace-absent, replace-same, apply-append}
+use Rattle.unifier_model.proofs.Replaced.{replace-absent, replace-same, apply-append}
 use Rattle.pl_unify.proofs.Grown.{bound_onto-append, bound_onto-begins}
 
 pub place_of-le : (n : ℕ) (ls : List Link) → place_of n ls ≤ length ls

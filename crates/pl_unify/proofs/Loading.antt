@@ -6,14 +6,12 @@ use Rattle.pl_atoms.specs.declared.names.NameId.{NameId}
 use Rattle.pl_terms.specs.declared.cell.Cell.{Cell}
 use Rattle.pl_terms.specs.declared.cell.Cell.TheVariants as C
 use Rattle.pl_terms.specs.Trees.{Tree, var, comp}
-use Rattle.run_model.specs.Substitution.{raise}
+use Rattle.unifier_model.specs.Substitution.{raise, apply}
 use Rattle.pl_terms.specs.Cells.{IsCell}
-use Rattle.pl_unify.specs.Prefix.{trees}
-use Rattle.pl_unify.specs.Prefix.{build, with_cell, first_tree}
+use Rattle.pl_unify.specs.Prefix.{trees, build, with_cell, first_tree}
 use Rattle.pl_unify.proofs.PrefixLaws.{trees-raise, Enough, Enough-drop}
 use Rattle.pl_unify.specs.declared.word.Word.{Word}
 use Rattle.pl_unify.specs.declared.word.Word.TheVariants.{Var, Comp}
-use Rattle.run_model.specs.Substitution.{apply}
 use Rattle.pl_unify.specs.Words.{word_tree, bases, no_word, WordIn}
 use Rattle.pl_unify.specs.State.{State, IsStore, base, bound, tree_at, links_of, IsStoreInside, Grows, IsRef}
 use Rattle.pl_unify.specs.Load.{NewInOrder, next_after, WordsIn, word_trees, CellAllowed, raise_cell}

@@ -2,14 +2,13 @@
 use Rattle.std.proofs.Common.{◌≡◌, ◌≢◌, ℕ, zero, suc, ◌+◌, ◌<◌, ◌≤◌, List, [], ◌∷◌, ◌++◌, take, drop, length, get_or, refl, ap, ◌∙◌, subst, Bool, true, false, nat_eq, arith, ◌||◌, if◌then◌else◌}
 use Rattle.std.proofs.lemmas.List.{length_push}
 use Rattle.pl_terms.specs.Trees.{Tree, Trees, var, int, atom, comp, nil, cons}
-use Rattle.run_model.specs.Substitution.{replace, replace_all, occurs, occurs_any}
+use Rattle.unifier_model.specs.Substitution.{replace, replace_all, occurs, occurs_any, apply}
 use Rattle.pl_unify.specs.Prefix.{trees}
 use Rattle.pl_unify.specs.declared.word.Word.{Word}
 use Rattle.pl_unify.specs.declared.word.Word.TheVariants.{Var, Int, Name, Comp}
-use Rattle.run_model.specs.Substitution.{apply}
 use Rattle.pl_unify.specs.Words.{word_tree, bases, bound_onto, Link, no_link, no_word, IsFree, WordIn}
 use Rattle.pl_unify.specs.State.{State, IsStore, base, bound, tree_of_word}
-use Rattle.run_model.proofs.Replaced.{or_false_left, or_false_right}
+use Rattle.unifier_model.proofs.Replaced.{or_false_left, or_false_right}
 
 abbrev pub Absent : ℕ → List (Tree ℕ) → Type 0
 Absent n [] = Unit {0}

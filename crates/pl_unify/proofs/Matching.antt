@@ -5,31 +5,30 @@ use Rattle.std.proofs.lemmas.List.{append-nil, append_assoc, drop_more, length-m
 use Rattle.std.proofs.lemmas.Bool.{eqb-true}
 use Rattle.pl_atoms.specs.declared.names.NameId.{NameId}
 use Rattle.pl_terms.specs.Trees.{Tree, Trees, var, int, atom, comp, cons, count}
-use Rattle.run_model.specs.Substitution.{raise, raise_all, size, sizes, occurs}
+use Rattle.unifier_model.specs.Substitution.{raise, raise_all, size, sizes, occurs, apply, apply_all}
 use Rattle.pl_unify.specs.Prefix.{trees}
 use Rattle.pl_unify.proofs.PrefixLaws.{trees-raise}
 use Rattle.pl_unify.specs.declared.word.Word.{Word}
 use Rattle.pl_unify.specs.declared.word.Word.TheVariants.{Var, Int, Name, Comp}
 use Rattle.pl_unify.specs.declared.code.CodeWord.{CodeWord}
 use Rattle.pl_unify.specs.declared.code.CodeWord.TheVariants as K
-use Rattle.run_model.specs.Substitution.{apply, apply_all}
 use Rattle.pl_unify.specs.Words.{word_tree, IsFree, WordIn}
 use Rattle.pl_unify.specs.State.{State, IsStore, base, bound, tree_of_word, tree_of_var, tree_at, Extends, Grows, Binds, shape, places}
 use Rattle.pl_unify.proofs.StoreLaws.{Extends-trans, Extends-refl}
-use Rattle.run_model.specs.Unifier.{Solved, pairs, IsClash, IsOther}
-use Rattle.run_model.specs.Unifier.Solved.{solved, same, higher_left, higher_right, left, right, left_inside, right_inside, parts, clash}
-use Rattle.run_model.specs.Unifier.IsClash.{names, counts, int_atom, atom_int, int_comp, comp_int, atom_comp, comp_atom}
+use Rattle.unifier_model.specs.Unifier.{Solved, pairs, IsClash, IsOther}
+use Rattle.unifier_model.specs.Unifier.Solved.{solved, same, higher_left, higher_right, left, right, left_inside, right_inside, parts, clash}
+use Rattle.unifier_model.specs.Unifier.IsClash.{names, counts, int_atom, atom_int, int_comp, comp_int, atom_comp, comp_atom}
 use Rattle.pl_unify.specs.Steps.{OnlyBinds, pair_span, equations}
 use Rattle.pl_unify.specs.Code.{plain, no_code, code_base, code_tree, code_tree_in, IsCode, CodeIn}
 use Rattle.pl_unify.specs.declared.store.head.Met.{Met}
 use Rattle.pl_unify.specs.declared.store.head.Met.TheVariants as M
 use Rattle.pl_unify.specs.Spans.{IsMet}
 use Rattle.pl_unify.specs.Match.{SolvedBy, Matched, Matching, Born, applied, after, PairsIn, code_equations, code_equation, code_weight}
-use Rattle.run_model.proofs.Replaced.{apply-comp}
+use Rattle.unifier_model.proofs.Replaced.{apply-comp}
 use Rattle.pl_unify.proofs.Grown.{length-bases_nil}
 use Rattle.pl_unify.proofs.Shapes.{tree_of_word-shape, apply_all-trees, count-trees, count-args, length-places}
 use Rattle.pl_unify.proofs.Solving.{pairs-span, pair_trees}
-use Rattle.run_model.proofs.MguProofs.{size_pos}
+use Rattle.unifier_model.proofs.MguProofs.{size_pos}
 use Rattle.pl_unify.proofs.Walk.{tree_at-places}
 use Rattle.pl_unify.proofs.Low.{absent-new, free-new}
 use Rattle.pl_unify.proofs.Linked.{apply-free}

@@ -4,14 +4,14 @@ use Rattle.std.proofs.lemmas.List.{take-append-drop, get_or_append_left}
 use Rattle.pl_terms.specs.Trees.{Tree, var}
 use Rattle.pl_unify.specs.declared.word.Word.{Word}
 use Rattle.pl_unify.specs.declared.word.Ref.{Ref}
-use Rattle.run_model.specs.Substitution.{apply}
+use Rattle.unifier_model.specs.Substitution.{apply}
 use Rattle.pl_unify.specs.Words.{bases, word_tree, WordIn}
 use Rattle.pl_unify.specs.State.{State, base, bound, tree_at, tree_of_word, Extends, IsRef}
-use Rattle.run_model.specs.Unifier.{Solved}
+use Rattle.unifier_model.specs.Unifier.{Solved}
 use Rattle.pl_unify.specs.Match.{SolvedBy}
 use Rattle.pl_unify.proofs.Grown.{bases-append, bases-begins, length-bases_nil}
 use Rattle.pl_unify.proofs.Adds.{word_tree-more}
-use Rattle.run_model.proofs.Replaced.{apply-append}
+use Rattle.unifier_model.proofs.Replaced.{apply-append}
 
 split-cells : (a b : State) → Extends a b → b.cells ≡ a.cells ++ drop (length a.cells) b.cells
 split-cells a b e = sym (take-append-drop (length a.cells) b.cells) ∙ ap (λ x. x ++ drop (length a.cells) b.cells) e.cells

@@ -5,10 +5,9 @@ use Rattle.std.proofs.lemmas.List.{append-nil, length-append}
 use Rattle.pl_terms.specs.declared.cell.Cell.{Cell}
 use Rattle.pl_terms.specs.declared.cell.Cell.TheVariants.{Var, Int, Name, Comp}
 use Rattle.pl_terms.specs.Trees.{Tree, Trees, var, int, atom, comp, nil, cons, count}
-use Rattle.run_model.specs.Substitution.{raise, raise_all}
-use Rattle.pl_unify.specs.Prefix.{trees, listed}
+use Rattle.unifier_model.specs.Substitution.{raise, raise_all}
+use Rattle.pl_unify.specs.Prefix.{trees, listed, with_cell, build}
 use Rattle.pl_terms.specs.Cells.{cells, all_cells, IsForest, IsCell}
-use Rattle.pl_unify.specs.Prefix.{with_cell, build}
 
 pub trees-take : (ts : Trees ℕ) (xs : List (Tree ℕ)) → trees (take (count ts) (listed ts ++ xs)) ≡ ts
 trees-take nil xs = refl

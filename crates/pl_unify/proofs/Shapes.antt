@@ -3,7 +3,7 @@ use Rattle.std.proofs.Common.{◌≡◌, ℕ, zero, suc, ◌+◌, ◌<◌, ◌�
 use Rattle.std.proofs.lemmas.List.{take-append-drop, length-take-le, drop_more, get_or_at, take-map, drop-map, length-map, length-drop, get_or-take, get_or-drop, get_or-map, get_or_read}
 use Rattle.pl_terms.specs.Trees.{Tree, var, comp, cons, count}
 use Rattle.pl_unify.specs.Prefix.{trees}
-use Rattle.run_model.specs.Substitution.{apply, apply_all}
+use Rattle.unifier_model.specs.Substitution.{apply, apply_all}
 use Rattle.pl_unify.specs.declared.word.Word.{Word}
 use Rattle.pl_unify.specs.declared.word.Word.TheVariants.{Var, Int, Name, Comp}
 use Rattle.pl_unify.specs.declared.word.View.{View}
@@ -12,7 +12,7 @@ use Rattle.pl_unify.specs.Words.{word_tree, bases, no_word, IsFree, WordIn}
 use Rattle.pl_unify.specs.State.{State, IsStore, base, bound, tree_of_word, tree_at, places, shape}
 use Rattle.pl_unify.specs.Shape.{root, nth_tree, argument}
 use Rattle.pl_unify.proofs.Grown.{bases-append, bases-begins, length-bases_nil, word_tree-append}
-use Rattle.run_model.proofs.Replaced.{apply-int, apply-atom, apply-comp, apply_all-none, apply_all-tree}
+use Rattle.unifier_model.proofs.Replaced.{apply-int, apply-atom, apply-comp, apply_all-none, apply_all-tree}
 use Rattle.pl_unify.proofs.Linked.{apply-free}
 use Rattle.pl_unify.proofs.Adds.{WordIn-more}
 

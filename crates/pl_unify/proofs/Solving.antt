@@ -4,18 +4,18 @@ use Rattle.std.proofs.lemmas.List.{reverse-append, drop_more, map-append}
 use Rattle.std.proofs.lemmas.Bool.{eqb-true}
 use Rattle.pl_atoms.specs.declared.names.NameId.{NameId}
 use Rattle.pl_terms.specs.Trees.{Tree, Trees, var, comp, nil, cons, count}
-use Rattle.run_model.specs.Substitution.{size, sizes, occurs}
+use Rattle.unifier_model.specs.Substitution.{size, sizes, occurs}
 use Rattle.pl_unify.specs.Prefix.{trees}
 use Rattle.pl_unify.specs.declared.word.Word.{Word}
 use Rattle.pl_unify.specs.declared.word.Word.TheVariants.{Var, Int, Name, Comp}
 use Rattle.pl_unify.specs.Words.{IsFree, WordIn}
 use Rattle.pl_unify.specs.State.{State, tree_at, tree_of_word, places, shape}
-use Rattle.run_model.specs.Unifier.{Solved, replaced, binding, pairs, IsClash, IsOther}
-use Rattle.run_model.specs.Unifier.Solved.{same, higher_left, higher_right, left, right, left_inside, right_inside, parts, clash}
-use Rattle.run_model.specs.Unifier.IsClash.{ints, atoms, names, counts, int_atom, atom_int, int_comp, comp_int, atom_comp, comp_atom}
+use Rattle.unifier_model.specs.Unifier.{Solved, replaced, binding, pairs, IsClash, IsOther}
+use Rattle.unifier_model.specs.Unifier.Solved.{same, higher_left, higher_right, left, right, left_inside, right_inside, parts, clash}
+use Rattle.unifier_model.specs.Unifier.IsClash.{ints, atoms, names, counts, int_atom, atom_int, int_comp, comp_int, atom_comp, comp_atom}
 use Rattle.pl_unify.specs.Steps.{pair_span, PairsBelow, equations, BindStep, WordsClash}
 use Rattle.pl_unify.proofs.Shapes.{length-places, count-args, tree_of_word-shape}
-use Rattle.run_model.proofs.MguProofs.{size_pos}
+use Rattle.unifier_model.proofs.MguProofs.{size_pos}
 use Rattle.pl_unify.proofs.Walk.{tree_at-places}
 
 pub reverse-push_pair : (xs : List (ℕ × ℕ)) (x : ℕ × ℕ) → reverse (xs ++ x ∷ []) ≡ x ∷ reverse xs

@@ -3,20 +3,19 @@ use Rattle.std.proofs.Common.{◌≡◌, ◌≢◌, ℕ, zero, suc, ◌+◌, ◌
 use Rattle.std.proofs.lemmas.List.{append-nil, append_assoc}
 use Rattle.std.proofs.lemmas.Bool.{eq-eqb, cases_eq}
 use Rattle.pl_terms.specs.Trees.{Tree, var}
-use Rattle.run_model.specs.Substitution.{replace, occurs}
+use Rattle.unifier_model.specs.Substitution.{replace, occurs, apply}
 use Rattle.pl_unify.specs.declared.word.Word.{Word}
 use Rattle.pl_unify.specs.declared.word.Ref.{Ref}
-use Rattle.run_model.specs.Substitution.{apply}
 use Rattle.pl_unify.specs.Words.{Link, IsFree, bases}
 use Rattle.pl_unify.specs.State.{State, tree_at, tree_of_word, bound, base, Binds}
-use Rattle.run_model.specs.Unifier.{Solved, replaced, binding}
+use Rattle.unifier_model.specs.Unifier.{Solved, replaced, binding}
 use Rattle.pl_unify.specs.Steps.{PairsBelow, equations, BindStep, OnlyBinds, Unified, unbound, is_free}
 use Rattle.pl_unify.specs.Match.{SolvedBy, after}
 use Rattle.pl_unify.proofs.Moves.{solved_by}
 use Rattle.pl_unify.proofs.StoreLaws.{Extends-trans, Extends-refl}
-use Rattle.run_model.proofs.Replaced.{apply-append}
+use Rattle.unifier_model.proofs.Replaced.{apply-append}
 use Rattle.pl_unify.proofs.Linked.{free_head}
-use Rattle.run_model.proofs.Only.{mgu-Solved}
+use Rattle.unifier_model.proofs.Only.{mgu-Solved}
 
 pub after-binding : (done : List (ℕ × Tree ℕ)) (n : ℕ) (t : Tree ℕ) (r : Option (List (ℕ × Tree ℕ))) → after done (binding n t r) ≡ after (done ++ (n, t) ∷ []) r
 after-binding done n t None = refl

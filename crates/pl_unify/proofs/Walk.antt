@@ -6,11 +6,10 @@ use Rattle.pl_atoms.specs.declared.names.NameId.{NameId}
 use Rattle.pl_terms.specs.declared.cell.Cell.TheVariants.{Comp}
 use Rattle.pl_unify.specs.declared.word.Word.TheVariants as W
 use Rattle.pl_terms.specs.Trees.{Tree, var, comp, count}
-use Rattle.run_model.specs.Substitution.{sizes, occurs_any, occurs}
+use Rattle.unifier_model.specs.Substitution.{sizes, occurs_any, occurs, apply}
 use Rattle.pl_unify.specs.Prefix.{trees}
 use Rattle.pl_terms.specs.Cells.{cells, all_cells}
 use Rattle.pl_unify.specs.declared.word.Word.{Word}
-use Rattle.run_model.specs.Substitution.{apply}
 use Rattle.pl_unify.specs.State.{State, tree_at, places, base, bound, shape}
 use Rattle.pl_unify.specs.Stack.{span, Below, stack}
 use Rattle.pl_unify.specs.Notes.{block}

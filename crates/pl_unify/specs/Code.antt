@@ -1,14 +1,13 @@
 -- The code of terms: words as those of a store, whose variables have the numbers of a clause's own.
 use Rattle.std.specs.Prelude.{ℕ, zero, suc, ◌+◌, ◌-◌, ◌<◌, ◌≤◌, ◌^◌, pos, List, [], ◌∷◌, map, length, slice_index_or}
 use Rattle.pl_terms.specs.Trees.{Tree, var}
-use Rattle.run_model.specs.Substitution.{raise}
+use Rattle.unifier_model.specs.Substitution.{raise, apply}
 use Rattle.pl_unify.specs.declared.word.Word.{Word}
 use Rattle.pl_unify.specs.declared.word.Word.TheVariants as W
 use Rattle.pl_unify.specs.declared.code.CodeWord.{CodeWord}
 use Rattle.pl_unify.specs.declared.code.CodeWord.TheVariants as K
 use Rattle.pl_terms.specs.declared.cell.Cell.{Cell}
 use Rattle.pl_terms.specs.declared.cell.Cell.TheVariants as C
-use Rattle.run_model.specs.Substitution.{apply}
 use Rattle.pl_unify.specs.Words.{bases}
 use Rattle.pl_unify.specs.State.{State, bound}
 

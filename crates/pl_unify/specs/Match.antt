@@ -1,14 +1,13 @@
 -- What matching a head against its code says.
 use Rattle.std.specs.Prelude.{◌≡◌, ℕ, ◌+◌, ◌<◌, List, [], ◌∷◌, ◌++◌, length, map, Option, Some, None}
 use Rattle.pl_terms.specs.Trees.{Tree}
-use Rattle.run_model.specs.Substitution.{size}
+use Rattle.unifier_model.specs.Substitution.{size, apply}
 use Rattle.pl_unify.specs.declared.word.Word.{Word}
 use Rattle.pl_unify.specs.declared.code.CodeWord.{CodeWord}
 use Rattle.pl_unify.specs.declared.word.Ref.{Ref}
-use Rattle.run_model.specs.Substitution.{apply}
 use Rattle.pl_unify.specs.Words.{WordIn}
 use Rattle.pl_unify.specs.State.{State, tree_at, tree_of_word, tree_of_var, bound, Extends, IsRef}
-use Rattle.run_model.specs.Unifier.{Solved}
+use Rattle.unifier_model.specs.Unifier.{Solved}
 use Rattle.pl_unify.specs.Code.{code_tree, code_tree_in}
 
 -- the equations after the replacements

@@ -1,11 +1,10 @@
 -- Blocks of places that are known to hold no unbound variable.
 use Rattle.std.specs.Prelude.{◌≡◌, ℕ, zero, suc, ◌+◌, ◌<◌, ◌≤◌, List, [], ◌∷◌, ◌++◌, ◌⊎◌, length, take, drop, reverse, false, slice_index_or}
 use Rattle.pl_terms.specs.Trees.{Tree, Trees, var}
-use Rattle.run_model.specs.Substitution.{occurs}
+use Rattle.unifier_model.specs.Substitution.{occurs, apply}
 use Rattle.pl_unify.specs.declared.word.Word.{Word}
 use Rattle.pl_unify.specs.declared.store.notes.Step.{Step}
 use Rattle.pl_unify.specs.declared.store.notes.Step.TheVariants.{Visit, Done}
-use Rattle.run_model.specs.Substitution.{apply}
 use Rattle.pl_unify.specs.Words.{Link, bases, bound_onto}
 use Rattle.pl_unify.specs.State.{State, tree_at, places, IsStoreInside, links_of}
 use Rattle.pl_unify.specs.Prefix.{trees}

@@ -1,6 +1,6 @@
 -- Spans of equations of places of a store with places of code.
 use Rattle.std.specs.Prelude.{ℕ, List, [], ◌∷◌, ◌++◌, None}
-use Rattle.run_model.specs.Unifier.{Solved}
+use Rattle.unifier_model.specs.Unifier.{Solved}
 use Rattle.pl_terms.specs.Trees.{Tree}
 use Rattle.pl_unify.specs.declared.code.CodeWord.{CodeWord}
 use Rattle.pl_unify.specs.declared.store.head.Span.{Span}

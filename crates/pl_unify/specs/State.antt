@@ -1,13 +1,12 @@
 -- What a store stands for.
 use Rattle.std.specs.Prelude.{◌≡◌, ℕ, ◌<◌, ◌≤◌, List, [], ◌∷◌, ◌++◌, take, drop, map, length, false, slice_index_or}
 use Rattle.pl_terms.specs.Trees.{Tree, var, int, atom, comp}
-use Rattle.run_model.specs.Substitution.{occurs, replace}
+use Rattle.unifier_model.specs.Substitution.{occurs, replace, apply}
 use Rattle.pl_unify.specs.Prefix.{trees}
 use Rattle.pl_unify.specs.declared.word.Word.{Word}
 use Rattle.pl_unify.specs.declared.word.Word.TheVariants.{Var, Int, Name, Comp}
 use Rattle.pl_unify.specs.declared.store.Mark.{Mark}
 use Rattle.pl_unify.specs.declared.word.Ref.{Ref}
-use Rattle.run_model.specs.Substitution.{apply}
 use Rattle.pl_unify.specs.Words.{word_tree, no_word, bases, bound_onto, Link, no_link, IsFree, WordIn}
 
 -- the words of the places, the bindings from the oldest on, and the next variable's number

@@ -1,7 +1,7 @@
 -- What the parts of `unify` say.
 use Rattle.std.specs.Prelude.{◌≡◌, ℕ, zero, suc, ◌+◌, ◌<◌, List, [], ◌∷◌, ◌++◌, length, map, reverse, Option, Some, None, true, false, Bool, nat_eq, if◌then◌else◌}
 use Rattle.pl_terms.specs.Trees.{Tree}
-use Rattle.run_model.specs.Substitution.{occurs}
+use Rattle.unifier_model.specs.Substitution.{occurs, apply}
 use Rattle.pl_unify.specs.declared.word.Word.{Word}
 use Rattle.pl_unify.specs.declared.word.Word.TheVariants.{Var, Comp}
 use Rattle.pl_unify.specs.declared.word.Ref.{Ref}
@@ -10,11 +10,10 @@ use Rattle.pl_unify.specs.declared.store.unify.Turn.{Turn}
 use Rattle.pl_unify.specs.declared.store.unify.Turn.TheVariants as T
 use Rattle.pl_unify.specs.declared.store.unify.Next.{Next}
 use Rattle.pl_unify.specs.declared.store.unify.Next.TheVariants.{Done, Clash, Bind}
-use Rattle.run_model.specs.Substitution.{apply}
 use Rattle.pl_unify.specs.Words.{Link, IsFree, WordIn}
 use Rattle.pl_unify.specs.State.{State, tree_at, tree_of_word, tree_of_var, bound, Extends, shape}
-use Rattle.run_model.specs.Mgu.{mgu}
-use Rattle.run_model.specs.Unifier.{Solved, replaced, binding, IsClash}
+use Rattle.unifier_model.specs.Mgu.{mgu}
+use Rattle.unifier_model.specs.Unifier.{Solved, replaced, binding, IsClash}
 
 -- pairs of places from two places on
 abbrev pub pair_span : ℕ → ℕ → ℕ → List (ℕ × ℕ)

@@ -4,7 +4,7 @@ use Rattle.pl_terms.specs.Trees.{Tree, var, int, atom, comp}
 use Rattle.pl_unify.specs.Prefix.{trees}
 use Rattle.pl_unify.specs.declared.word.Word.{Word}
 use Rattle.pl_unify.specs.declared.word.Word.TheVariants.{Var, Int, Name, Comp}
-use Rattle.run_model.specs.Substitution.{apply}
+use Rattle.unifier_model.specs.Substitution.{apply}
 
 -- stands past the end of a list of words
 abbrev pub no_word : Word

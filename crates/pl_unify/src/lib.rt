@@ -4,8 +4,6 @@
 mod code;
 mod list;
 mod store;
-#[cfg(test)]
-mod tests;
 mod word;
 
 pub use code::{Code, CodeWord};

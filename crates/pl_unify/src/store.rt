@@ -1,6 +1,6 @@
 //! The store: places, variables, bindings and marks.
 ghost use Rattle.std.specs.Prelude.{◌≡◌, ℕ, ◌+◌, ◌-◌, ◌<◌, ◌≤◌, ◌^◌, ◌∷◌, ◌++◌, [], max, take, length, false, IfOk, OnOk, OnErr, vec_capacity};
-ghost use Rattle.run_model.specs.Substitution.{occurs};
+ghost use Rattle.unifier_model.specs.Substitution.{occurs};
 ghost use Rattle.pl_terms.specs.Trees.{var};
 ghost use Rattle.pl_terms.specs.Cells.{cells};
 ghost use Rattle.pl_unify.specs.Words.{IsFree, WordIn, link};

@@ -7,7 +7,7 @@ use Rattle.pl_ops.specs.Tables.{Operators, prefix_class, infix_class, postfix_cl
 use Rattle.pl_ops.specs.declared.op.Op.{Op as Operator}
 use Rattle.pl_terms.specs.Order.{text_of, texts_of}
 use Rattle.pl_terms.specs.Cells.{first, forest, IsForest}
-use Rattle.text_model.specs.Writing.{Piece, plain_piece, name_text, signed, wrapped, Shown, parted, as_argument, tail_of, weight_of, first_some, prefix_in, postfix_in, infix_in, tree_weight, is_any_operator, left_max, right_max, last_of}
+use Rattle.text_model.specs.Writing.{Piece, plain_piece, name_text, signed, wrapped, Shown, parted, as_argument, tail_of, weight_of, first_some, prefix_in, postfix_in, infix_in, tree_weight, is_any_operator, left_max, right_max}
 use Rattle.text_model.specs.declared.Quote.{Quote}
 use Rattle.text_model.specs.declared.Role.TheVariants.{SignBefore as sign_before, SignBetween as sign_between, SignAfter as sign_after}
 use Rattle.text_model.specs.Writing as writing

@@ -40,22 +40,22 @@ piece_of names q (Integer z) = plain_piece (int_text z)
 
 -- ---- spaces
 
--- a space has to stand before a piece that begins with this byte
-abbrev pub meets : Edge → ℕ → Bool → Bool
-meets e first letters =
+-- a space has to stand before a piece that begins with this byte, and is an opening bracket or an operator of letters or not
+abbrev pub meets : Edge → ℕ → Bool → Bool → Bool
+meets e first bracket letters =
     (is_alnum e.last && is_alnum first)
     || ((is_symbol e.last && is_symbol first)
     || ((e.letters || letters)
-    || ((e.before && nat_eq first 40)
+    || ((e.before && bracket)
     || ((e.before && (e.minus && is_digit first))
     || (nat_eq e.last 39 && nat_eq first 39)))))
 
-abbrev pub gap_by : Edge → ℕ → Bool → List ℕ
-gap_by e first letters = if e.started && meets e first letters then 32 ∷ [] else []
+abbrev pub gap_by : Edge → ℕ → Bool → Bool → List ℕ
+gap_by e first bracket letters = if e.started && meets e first bracket letters then 32 ∷ [] else []
 
 -- a piece after its space
 abbrev pub gapped : Edge → Piece → List ℕ
-gapped e r = gap_by e (head_of r.text) (is_letters r) ++ r.text
+gapped e r = gap_by e (head_of r.text) (same_text r.text (codes "(")) (is_letters r) ++ r.text
 
 abbrev pub edge_of : Piece → Edge
 edge_of p = record { started = true; last = last_of 256 p.text; letters = is_letters p; before = is_sign_before p; minus = same_text p.text (codes "-") }

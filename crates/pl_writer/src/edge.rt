@@ -96,23 +96,29 @@ fn edge_of(text: &[u8], role: Role) -> Edge
 }
 
 /// Whether a space has to stand between the pieces, where the second begins with this byte.
-fn meets(edge: Edge, first: u16, letters: bool) -> bool
-    ensures { result ≡ meets_of edge first letters }
+fn meets(edge: Edge, first: u16, bracket: bool, letters: bool) -> bool
+    ensures { result ≡ meets_of edge first bracket letters }
 {
     (is_alnum(edge.last) && is_alnum(first))
         || ((is_symbol(edge.last) && is_symbol(first))
             || ((edge.letters || letters)
-                || ((edge.before && first == 40)
+                || ((edge.before && bracket)
                     || ((edge.before && (edge.minus && is_digit(first)))
                         || (edge.last == 39 && first == 39)))))
 }
 
 /// Puts the space before a piece, where one has to stand.
-fn push_gap(out: &mut Bytes, edge: Edge, first: u16, letters: bool) -> Result<(), NoMemory>
-    ensures ok { OnOk result (out.new ≡ out.old ++ gap_by edge first letters) }
+fn push_gap(
+    out: &mut Bytes,
+    edge: Edge,
+    first: u16,
+    bracket: bool,
+    letters: bool,
+) -> Result<(), NoMemory>
+    ensures ok { OnOk result (out.new ≡ out.old ++ gap_by edge first bracket letters) }
     ensures err { OnErr result (out.new ≡ out.old) }
 {
-    if edge.started && meets(edge, first, letters) {
+    if edge.started && meets(edge, first, bracket, letters) {
         out.push(b' ')
     } else {
         Ok(())
@@ -125,7 +131,8 @@ fn emit_bytes(out: &mut Bytes, edge: Edge, text: &[u8], role: Role) -> Result<Ed
     ensures bytes { OnOk result (out.new ≡ out.old ++ gapped edge (record { text = text.now; role = role })) }
     ensures err { OnErr result (Begins out.old out.new) }
 {
-    push_gap(out, edge, head_of(text), is_letters(text, role))?;
+    let bracket = text == b"(".as_slice();
+    push_gap(out, edge, head_of(text), bracket, is_letters(text, role))?;
     out.extend_from_slice(text)?;
     Ok(edge_of(text, role))
 }
@@ -136,7 +143,7 @@ fn emit_quoted(out: &mut Bytes, edge: Edge, text: &[u8], role: Role) -> Result<E
     ensures bytes { OnOk result (out.new ≡ out.old ++ gapped edge (record { text = quoted_text text.now; role = role })) }
     ensures err { OnErr result (Begins out.old out.new) }
 {
-    push_gap(out, edge, 39, false)?;
+    push_gap(out, edge, 39, false, false)?;
     push_quoted(out, text)?;
     Ok(Edge {
         started: true,
@@ -191,7 +198,7 @@ fn emit_variable(out: &mut Bytes, edge: Edge, number: usize) -> Result<Edge, NoM
 {
     let mut buffer = Buffer::new();
     let digits = buffer.format(number).as_bytes();
-    push_gap(out, edge, 95, false)?;
+    push_gap(out, edge, 95, false, false)?;
     out.extend_from_slice(b"_G")?;
     out.extend_from_slice(digits)?;
     Ok(Edge {

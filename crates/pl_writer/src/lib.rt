@@ -9,6 +9,3 @@ mod writer;
 pub use name::write_name;
 pub use text_model::Quote;
 pub use writer::{write_onto, write_text};
-
-#[cfg(test)]
-mod tests;

@@ -1,8 +1,8 @@
 -- What is written of a goal over linked units.
-use Rattle.std.proofs.Common.{◌≡◌, ◌≢◌, ℕ, ◌-◌, List, [], ◌++◌, length, Result, Ok, Err, IfOk, Option, Some, None, refl, sym, ap, ◌∙◌, subst, append-nil}
+use Rattle.std.proofs.Common.{◌≡◌, ◌≢◌, ℕ, ◌-◌, List, [], Result, Ok, Err, IfOk, Option, Some, None, sym, ap, ◌∙◌, subst, append-nil}
 use Rattle.std.specs.Io.KnownBytes.{Appends, Keeps}
 use Rattle.plm_io.specs.Causes.{AppendsFront}
-use Rattle.plm_io.proofs.FrontLaws.{front_of_nothing, front_of_first}
+use Rattle.plm_io.proofs.FrontLaws.{front_of_first}
 use Rattle.pl_terms.specs.Trees.{Tree}
 use Rattle.pl_ops.specs.Standard.{standard}
 use Rattle.pl_ops.specs.Tables.{operator}
@@ -10,19 +10,19 @@ use Rattle.pl_atoms.specs.declared.memory.NoMemory.{NoMemory}
 use Rattle.unit_model.specs.Facts.{Facts}
 use Rattle.unit_model.specs.Directives.{Text}
 use Rattle.goal_model.specs.Program.{Program}
-use Rattle.link_program.specs.Linking.{program_of_facts}
+use Rattle.program_model.specs.Linking.{program_of_facts}
 use Rattle.prep_report.specs.Lines.{end_text}
-use Rattle.goal_text.specs.Goals.{VariableNames, IsGoal, IsGoalFault, GoalsAreDecided}
+use Rattle.goal_runs.specs.Goals.{VariableNames, GoalsAreDecided}
 use Rattle.pl_machine.specs.declared.run.Show.TheVariants.{Lines}
 use Rattle.goal_runs.specs.Ends.{manner}
 use Rattle.goal_runs.specs.Runs.{Outcomes, run_over, events_text, Shows, no_goal as shows_none, a_goal as shows_goal, IsFinished, Ends}
 use Rattle.goal_runs.specs.declared.running.Finished.{Finished}
 use Rattle.goal_runs.specs.declared.running.GoalEnd.TheVariants as G
-use Rattle.plmod.specs.declared.made.Made.{Made}
+use Rattle.plmod.specs.declared.answer.Made.{Made}
 use Rattle.plmod.specs.declared.status.Status.{Status}
 use Rattle.plmod.specs.declared.status.Status.TheVariants.{GoalFault, ReadFault}
 use Rattle.plmod.specs.Outcome.{Outcome, told}
-use Rattle.plmod.specs.Meets.{Answers, Gives}
+use Rattle.plmod.specs.Meets.{Gives}
 use Rattle.plmod.specs.MadeOutcome.{outcome_of}
 use Rattle.plmod.specs.Runs.{GoalGives, no_goal, runs, ran, goal_line, end_line, status_of, status_in}
 use Rattle.plmod.proofs.Parts.{answers_after}
@@ -47,7 +47,7 @@ Tells made status old new = (o : Outcome) → IsMade made o → Gives status o o
 
 -- the line of a run's end
 pub end_is : (q : Program Text) (f : Finished) (budget : ℕ) (r : Outcomes) → IsFinished q budget f r
-    → told (end_text (operator standard) f.machine.library.names f.end) (status_in (manner f.end)) ≡ told (end_line r) (status_of r)
+    → told (end_text (operator standard) f.machine.compiled.names f.end) (status_in (manner f.end)) ≡ told (end_line r) (status_of r)
 end_is q f budget r is =
     ap (λ l. told l (status_in (manner f.end))) is.shown ∙ ap (λ m. told (end_line r) (status_in m)) is.manner
 
@@ -64,14 +64,14 @@ module _ (decided : GoalsAreDecided) where
 
   -- a run that has ended
   pub end_told : (us : List (Facts Text)) (budget : ℕ) (goal : List ℕ) (o : Outcome) (f : Finished) (made : Result Made NoMemory) (status : Status) (old mid new : Option (List ℕ)) → status ≢ ReadFault
-      → Ends us budget goal Lines old mid (G.Ended f) → IsMade made (told (end_text (operator standard) f.machine.library.names f.end) (status_in (manner f.end)))
+      → Ends us budget goal Lines old mid (G.Ended f) → IsMade made (told (end_text (operator standard) f.machine.compiled.names f.end) (status_in (manner f.end)))
       → Tells made status mid new → GoalGives us budget goal o → Gives status o old new
   end_told us budget goal o f made status old mid new read ends is tells (no_goal n byte h) = absurd ((decided goal).not_both ends.0 ends.1 n byte ends.2 h)
   end_told us budget goal o f made status old mid new read ends is tells (runs t names h) =
       let r : Outcomes = run_over us ends.0 budget in
       let same = (decided goal).one_goal ends.0 t ends.1 names ends.2 h in
       let given : Gives status (ran ends.1 r) old new = answers_after status (status_of r) (events_text ends.1 r) (end_line r) old mid new read ends.3
-      (tells (told (end_line r) (status_of r)) (made_same made (told (end_text (operator standard) f.machine.library.names f.end) (status_in (manner f.end))) (told (end_line r) (status_of r)) (end_is (program_of_facts us) f budget r ends.4) is)) in
+      (tells (told (end_line r) (status_of r)) (made_same made (told (end_text (operator standard) f.machine.compiled.names f.end) (status_in (manner f.end))) (told (end_line r) (status_of r)) (end_is (program_of_facts us) f budget r ends.4) is)) in
       let P : Tree Text → Type 0 = λ x. Gives status (ran ends.1 (run_over us x budget)) old new in
       let Q : VariableNames → Type 0 = λ x. Gives status (ran x (run_over us t budget)) old new in
       subst Q same.1 (subst P same.0 given)

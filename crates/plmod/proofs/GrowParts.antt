@@ -1,5 +1,5 @@
 -- The texts of the command `grow` from their parts.
-use Rattle.std.proofs.Common.{◌≡◌, ℕ, ◌-◌, ◌<◌, ◌≤◌, List, [], ◌++◌, codes, decimal, nat_lt, if◌then◌else◌, sym, ap, ◌∙◌, append_assoc, append-nil}
+use Rattle.std.proofs.Common.{◌≡◌, ℕ, ◌-◌, ◌<◌, ◌≤◌, List, [], ◌++◌, codes, decimal, if◌then◌else◌, sym, ap, ◌∙◌, append_assoc, append-nil}
 use Rattle.std.proofs.lemmas.Bool.{lt-ltb, le-ltb}
 use Rattle.plmod.specs.Growing.{import_line, fact_line, rule_line, interface_lines, body_lines, only_after_first, grow_text, last_text}
 

@@ -1,5 +1,5 @@
 -- What the command `grow` writes, by its parts.
-use Rattle.std.proofs.Common.{◌≡◌, ◌≢◌, ℕ, ◌-◌, List, [], ◌++◌, length, Result, Ok, Err, IfOk, Option, Some, None, refl, sym, ap, ◌∙◌, subst}
+use Rattle.std.proofs.Common.{◌≡◌, ◌≢◌, ℕ, ◌-◌, List, [], ◌++◌, length, Result, Option, refl, sym, ap, ◌∙◌, subst}
 use Rattle.std.specs.Io.KnownBytes.{Appends}
 use Rattle.plm_io.specs.Causes.{AppendsFront}
 use Rattle.plm_io.specs.declared.traits.IoFault.{IoFault}
@@ -11,21 +11,21 @@ use Rattle.pl_ops.specs.Tables.{operator}
 use Rattle.pl_atoms.specs.declared.memory.NoMemory.{NoMemory}
 use Rattle.unit_model.specs.Facts.{Facts}
 use Rattle.unit_model.specs.Directives.{Text}
-use Rattle.search_theory.specs.Search.{answers_of}
+use Rattle.solver_model.specs.Search.{answers_of}
 use Rattle.link_model.specs.Faults.{Fault}
 use Rattle.link_model.specs.Texts.{prep_fault, link_fault, program, WholeIs}
 use Rattle.goal_model.specs.Program.{Program}
-use Rattle.link_program.specs.Linking.{program_of_facts}
+use Rattle.program_model.specs.Linking.{program_of_facts}
 use Rattle.needs_laws.specs.Wholes.{OneWhole}
 use Rattle.prep_report.specs.Lines.{end_text, count_text}
-use Rattle.goal_text.specs.Goals.{IsGoal, IsGoalFault, GoalsAreDecided}
+use Rattle.goal_runs.specs.Goals.{GoalsAreDecided}
 use Rattle.pl_machine.specs.Running.{stopped}
 use Rattle.pl_machine.specs.declared.run.Show.TheVariants.{Count}
 use Rattle.goal_runs.specs.Ends.{manner}
 use Rattle.goal_runs.specs.Runs.{Outcomes, run_over, Shows, no_goal as shows_none, a_goal as shows_goal, IsFinished, Ends}
 use Rattle.goal_runs.specs.declared.running.Finished.{Finished}
 use Rattle.goal_runs.specs.declared.running.GoalEnd.TheVariants as G
-use Rattle.plmod.specs.declared.made.Made.{Made}
+use Rattle.plmod.specs.declared.answer.Made.{Made}
 use Rattle.plmod.specs.declared.status.Status.{Status}
 use Rattle.plmod.specs.declared.status.Status.TheVariants.{GoalFault, ReadFault, WriteFault, NoMemory as NoMemoryLeft}
 use Rattle.plmod.specs.Outcome.{Outcome, told}
@@ -43,12 +43,12 @@ count_lines budget r = count_text (stopped (length (answers_of r.events))) (budg
 
 -- the same of a machine that has come to the end
 abbrev pub lines_made : Finished → List ℕ
-lines_made f = count_text f.machine.answers (f.machine.budget - f.machine.left) ++ end_text (operator standard) f.machine.library.names f.end
+lines_made f = count_text f.machine.answers (f.machine.budget - f.machine.left) ++ end_text (operator standard) f.machine.compiled.names f.end
 
 count_is : (q : Program Text) (f : Finished) (budget : ℕ) (r : Outcomes) → IsFinished q budget f r → told (lines_made f) (status_in (manner f.end)) ≡ told (count_lines budget r) (status_of r)
 count_is q f budget r is =
-    ap (λ a. told (count_text a (f.machine.budget - f.machine.left) ++ end_text (operator standard) f.machine.library.names f.end) (status_in (manner f.end))) is.answers
-    ∙ ap (λ s. told (count_text (stopped (length (answers_of r.events))) s ++ end_text (operator standard) f.machine.library.names f.end) (status_in (manner f.end))) is.steps
+    ap (λ a. told (count_text a (f.machine.budget - f.machine.left) ++ end_text (operator standard) f.machine.compiled.names f.end) (status_in (manner f.end))) is.answers
+    ∙ ap (λ s. told (count_text (stopped (length (answers_of r.events))) s ++ end_text (operator standard) f.machine.compiled.names f.end) (status_in (manner f.end))) is.steps
     ∙ ap (λ p. record { bytes = count_text (stopped (length (answers_of r.events))) (budget - r.left) ++ p.bytes; status = p.status; stored = p.stored }) (end_is q f budget r is)
 
 module _ (decided : GoalsAreDecided) where

@@ -9,8 +9,8 @@ use Rattle.link_model.specs.Faults.{first_link}
 use Rattle.prep_report.specs.Lines.{not_unit_text}
 use Rattle.plmod.specs.declared.status.Status.{Status}
 use Rattle.plmod.specs.declared.status.Status.TheVariants.{Usage, NotUnit, ReadFault, WriteFault, NoMemory}
-use Rattle.plmod.specs.declared.telling.Asked.{Asked}
-use Rattle.plmod.specs.declared.telling.Asked.TheVariants.{Rows, Counts}
+use Rattle.plmod.specs.declared.link.Asked.{Asked}
+use Rattle.plmod.specs.declared.link.Asked.TheVariants.{Rows, Counts}
 use Rattle.plmod.specs.Words.{Order, Link, Show, read_names, out_name}
 use Rattle.plmod.specs.Outcome.{Outcome, told}
 use Rattle.plmod.specs.Comes.{Comes}

@@ -1,6 +1,6 @@
 -- Words and files have no more than one outcome.
 use Rattle.std.proofs.Common.{map, Some, None, sym, ◌∙◌}
-use Rattle.goal_text.specs.Goals.{GoalsAreDecided}
+use Rattle.goal_runs.specs.Goals.{GoalsAreDecided}
 use Rattle.needs_laws.specs.Wholes.{OneWhole}
 use Rattle.plmod.specs.Words.{Prepare, Link, Run, All, Show, Grow}
 use Rattle.plmod.specs.Comes.{OneOutcome}

@@ -6,7 +6,7 @@ use Rattle.link_model.specs.Faults.{Fault, first_link}
 use Rattle.link_model.specs.Texts.{Whole, prep_fault, link_fault, program}
 use Rattle.needs_laws.specs.Wholes.{OneWhole}
 use Rattle.prep_report.specs.Lines.{not_unit_text}
-use Rattle.goal_text.specs.Goals.{GoalsAreDecided}
+use Rattle.goal_runs.specs.Goals.{GoalsAreDecided}
 use Rattle.goal_runs.specs.Runs.{run_over}
 use Rattle.plmod.specs.declared.status.Status.TheVariants.{NotUnit, GoalFault}
 use Rattle.plmod.specs.Outcome.{Outcome, told}

@@ -4,11 +4,11 @@ use Rattle.std.proofs.lemmas.List.{get_or_default}
 use Rattle.unit_model.specs.Facts.{Facts}
 use Rattle.unit_model.specs.Directives.{Text}
 use Rattle.link_model.specs.Faults.{Fault, first_link}
-use Rattle.link_model.specs.Texts.{Whole, prep_fault, link_fault, program, WholeIs}
+use Rattle.link_model.specs.Texts.{prep_fault, link_fault, program, WholeIs}
 use Rattle.needs_laws.specs.Wholes.{OneWhole}
 use Rattle.prep_report.specs.Lines.{not_unit_text}
 use Rattle.plmod.specs.declared.status.Status.TheVariants.{NotUnit}
-use Rattle.plmod.specs.declared.telling.Decoded.TheVariants.{NoUnit}
+use Rattle.plmod.specs.declared.link.Decoded.TheVariants.{NoUnit}
 use Rattle.plmod.specs.Outcome.{Outcome, told}
 use Rattle.plmod.specs.Prepares.{AreUnits, FirstNoUnit, faulty}
 use Rattle.plmod.specs.Links.{link_faulty}

@@ -13,7 +13,7 @@ use Rattle.reading_laws.proofs.Decided.{PreparingIsDecided-holds}
 use Rattle.plmod.specs.Words.{Prepare, Link, Run, All, Show, Grow}
 use Rattle.plmod.specs.Outcome.{Outcome, usage}
 use Rattle.plmod.specs.Comes.{SomeOutcome}
-use Rattle.goal_text.specs.Goals.{GoalsAreDecided}
+use Rattle.goal_runs.specs.Goals.{GoalsAreDecided}
 use Rattle.plmod.specs.Runs.{RunGives, no_unit as run_no_unit}
 use Rattle.plmod.proofs.SomeRun.{some_run, some_all, some_grown}
 use Rattle.plmod.specs.Links.{UnitsGive, no_unit as gives_no_unit, units as gives_units, link_lines, show_lines}

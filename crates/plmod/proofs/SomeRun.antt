@@ -7,7 +7,7 @@ use Rattle.unit_model.specs.Prepared.{Prepared, FirstFault}
 use Rattle.reading_laws.proofs.Decided.{PreparingIsDecided-holds}
 use Rattle.link_model.specs.Faults.{Fault, first_link}
 use Rattle.link_model.specs.Texts.{known, Whole, prep_fault, link_fault, program, WholeFrom, WholeIs, all_prepared, faulty, one_more}
-use Rattle.goal_text.specs.Goals.{IsGoal, IsGoalFault, GoalsAreDecided}
+use Rattle.goal_runs.specs.Goals.{IsGoal, IsGoalFault, GoalsAreDecided}
 use Rattle.plmod.specs.Outcome.{Outcome}
 use Rattle.plmod.specs.Growing.{grow_texts, grow_goal}
 use Rattle.plmod.specs.Prepares.{AreUnits}

@@ -8,13 +8,13 @@ use Rattle.unit_model.specs.Validity.{IsUnit}
 use Rattle.unit_format.specs.Views.{unit_facts}
 use Rattle.unit_format.specs.declared.unit.Unit.{Unit as ReadUnit}
 use Rattle.link_model.specs.Faults.{Fault as FaultOf, first_link}
-use Rattle.link_faults.specs.declared.fault.Fault.{Fault}
-use Rattle.link_faults.specs.Views.{fault_view}
+use Rattle.mod_faults.specs.declared.fault.Fault.{Fault}
+use Rattle.mod_faults.specs.Views.{fault_view}
 use Rattle.mod_linker.specs.Counting.{linked_modules}
 use Rattle.mod_linker.specs.Linking.{IsLinkOf}
 use Rattle.pl_store.specs.Linked.{Linked}
 use Rattle.prep_report.specs.Lines.{not_unit_text, linked_text}
-use Rattle.plmod.specs.declared.made.Made.{Made}
+use Rattle.plmod.specs.declared.answer.Made.{Made}
 use Rattle.plmod.specs.declared.status.Status.{Status}
 use Rattle.plmod.specs.declared.status.Status.TheVariants.{Done, Usage, PrepFault, NotUnit, LinkFault, GoalFault, Uncaught, Spent, ReadFault, WriteFault, NoMemory as OutOfMemory}
 use Rattle.plmod.specs.Outcome.{Outcome, told}

@@ -6,7 +6,7 @@ use Rattle.unit_model.specs.Facts.{Facts}
 use Rattle.unit_model.specs.Directives.{Text}
 use Rattle.unit_model.specs.Preparing.{Interface}
 use Rattle.unit_model.specs.Prepared.{Prepared, FirstFault}
-use Rattle.preparing_model.specs.Known.{interfaces_of}
+use Rattle.unit_model.specs.Known.{interfaces_of}
 use Rattle.unit_format.specs.Views.{unit_facts}
 use Rattle.unit_format.specs.declared.unit.Unit.{Unit as ReadUnit}
 use Rattle.link_model.specs.Faults.{Fault, first_link}

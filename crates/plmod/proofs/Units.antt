@@ -11,15 +11,14 @@ use Rattle.plmod.specs.declared.status.Status.TheVariants.{Done, NotUnit}
 use Rattle.unit_model.specs.Views.{entry_view, entries_view, what_view, section_view}
 use Rattle.unit_model.specs.declared.facts.Entry.{Entry}
 use Rattle.unit_model.specs.declared.facts.Section.{Section}
-use Rattle.unit_model.specs.Prepared.{Prepared}
+use Rattle.unit_model.specs.Prepared.{Prepared, FirstFault}
 use Rattle.unit_format.proofs.Renaming.{map-append}
 use Rattle.unit_model.specs.Directives.{Text}
 use Rattle.unit_model.specs.Preparing.{Interface}
 use Rattle.unit_model.specs.Validity.{IsUnit}
-use Rattle.preparing_model.specs.Known.{interfaces_of}
+use Rattle.unit_model.specs.Known.{interfaces_of}
 use Rattle.pl_atoms.specs.declared.memory.NoMemory.{NoMemory}
-use Rattle.unit_model.specs.Prepared.{FirstFault}
-use Rattle.plmod.specs.declared.made.Made.{Made}
+use Rattle.plmod.specs.declared.answer.Made.{Made}
 use Rattle.plmod.specs.MadeOutcome.{outcome_of}
 use Rattle.plmod.specs.Outcome.{Outcome}
 use Rattle.plmod.specs.Prepares.{AreUnits, no_files, one_more, FirstNoUnit, here, later, no_unit, known_from, clauses_in_entry, clauses_in_entries, clause_count, PrepareGives, faulty, fault as gives_fault, too_long, unit}

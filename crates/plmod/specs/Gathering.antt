@@ -7,8 +7,8 @@ use Rattle.unit_model.specs.Prepared.{Prepared, FirstFault}
 use Rattle.unit_model.specs.Encoding.{encoding}
 use Rattle.unit_model.specs.Validity.{IsUnit}
 use Rattle.prep_report.specs.Lines.{prepared_text}
-use Rattle.plmod.specs.declared.preparing.Gathered.{Gathered}
-use Rattle.plmod.specs.declared.preparing.Gathered.TheVariants.{NoUnit, All}
+use Rattle.plmod.specs.declared.prepare.Gathered.{Gathered}
+use Rattle.plmod.specs.declared.prepare.Gathered.TheVariants.{NoUnit, All}
 use Rattle.plmod.specs.declared.status.Status.TheVariants.{Done}
 use Rattle.plmod.specs.Outcome.{Outcome}
 use Rattle.plmod.specs.Prepares.{AreUnits, known_from, faulty, clause_count}

@@ -3,11 +3,11 @@ use Rattle.std.specs.Prelude.{◌≡◌, ℕ, ◌-◌, List, length, map, Bool, 
 use Rattle.pl_terms.specs.Trees.{Tree}
 use Rattle.unit_model.specs.Facts.{Facts}
 use Rattle.unit_model.specs.Directives.{Text}
-use Rattle.search_theory.specs.Search.{answers_of}
+use Rattle.solver_model.specs.Search.{answers_of}
 use Rattle.link_model.specs.Faults.{first_link}
 use Rattle.link_model.specs.Texts.{program, WholeIs}
-use Rattle.link_program.specs.Linking.{program_of_facts}
-use Rattle.goal_text.specs.Goals.{IsGoal}
+use Rattle.program_model.specs.Linking.{program_of_facts}
+use Rattle.goal_runs.specs.Goals.{IsGoal}
 use Rattle.pl_machine.specs.declared.machine.Machine.{Machine}
 use Rattle.pl_machine.specs.Machine.{IsMachine}
 use Rattle.pl_machine.specs.Running.{stopped}

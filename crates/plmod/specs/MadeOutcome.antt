@@ -1,6 +1,6 @@
 -- What a command made, as its outcome.
 use Rattle.std.specs.Prelude.{◌≢◌, ◌<◌, ◌≤◌, length, IfSome}
-use Rattle.plmod.specs.declared.made.Made.{Made}
+use Rattle.plmod.specs.declared.answer.Made.{Made}
 use Rattle.plmod.specs.declared.status.Status.TheVariants.{Usage}
 use Rattle.plmod.specs.Outcome.{Outcome}
 use Rattle.plmod.specs.Meets.{IsWhole}

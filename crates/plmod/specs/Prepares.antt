@@ -7,7 +7,7 @@ use Rattle.unit_model.specs.Preparing.{Interface}
 use Rattle.unit_model.specs.Prepared.{Prepared, FirstFault}
 use Rattle.unit_model.specs.Encoding.{encoding}
 use Rattle.unit_model.specs.Validity.{IsUnit}
-use Rattle.preparing_model.specs.Known.{interfaces_of}
+use Rattle.unit_model.specs.Known.{interfaces_of}
 use Rattle.prep_report.specs.Lines.{fault_text, not_unit_text, prepared_text}
 use Rattle.plmod.specs.declared.status.Status.TheVariants.{Done, PrepFault, NotUnit}
 use Rattle.plmod.specs.Outcome.{Outcome, told}

@@ -5,11 +5,11 @@ use Rattle.pl_ops.specs.Standard.{standard}
 use Rattle.pl_ops.specs.Tables.{operator}
 use Rattle.unit_model.specs.Facts.{Facts}
 use Rattle.unit_model.specs.Directives.{Text}
-use Rattle.search_theory.specs.Search.{answers_of}
+use Rattle.solver_model.specs.Search.{answers_of}
 use Rattle.link_model.specs.Faults.{Fault, first_link}
 use Rattle.link_model.specs.Texts.{prep_fault, link_fault, program, WholeIs}
 use Rattle.prep_report.specs.Lines.{fault_text, not_unit_text, count_text}
-use Rattle.goal_text.specs.Goals.{IsGoal, IsGoalFault}
+use Rattle.goal_runs.specs.Goals.{IsGoal, IsGoalFault}
 use Rattle.pl_machine.specs.Running.{stopped}
 use Rattle.goal_runs.specs.Ends.{Manner, in_full, thrown, spent, manner_of, end_shown}
 use Rattle.goal_runs.specs.Runs.{Outcomes, run_over, events_text}

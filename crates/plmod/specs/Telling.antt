@@ -4,10 +4,10 @@ use Rattle.unit_model.specs.Facts.{Facts}
 use Rattle.unit_model.specs.Directives.{Text}
 use Rattle.unit_model.specs.Validity.{IsUnit}
 use Rattle.unit_format.specs.Views.{unit_facts}
-use Rattle.plmod.specs.declared.telling.Asked.{Asked}
-use Rattle.plmod.specs.declared.telling.Asked.TheVariants.{Rows, Counts}
-use Rattle.plmod.specs.declared.telling.Decoded.{Decoded}
-use Rattle.plmod.specs.declared.telling.Decoded.TheVariants.{NoUnit, All}
+use Rattle.plmod.specs.declared.link.Asked.{Asked}
+use Rattle.plmod.specs.declared.link.Asked.TheVariants.{Rows, Counts}
+use Rattle.plmod.specs.declared.link.Decoded.{Decoded}
+use Rattle.plmod.specs.declared.link.Decoded.TheVariants.{NoUnit, All}
 use Rattle.plmod.specs.Words.{Order, Link, Show}
 use Rattle.plmod.specs.Prepares.{AreUnits}
 use Rattle.plmod.specs.Links.{show_lines, link_lines}

@@ -4,10 +4,10 @@ use Rattle.unit_format.specs.Views.{unit_facts}
 use Rattle.unit_model.specs.Directives.{Text}
 use Rattle.link_model.specs.Faults.{fault, first_link}
 use Rattle.link_model.specs.Texts.{prep_fault, link_fault, linked, WholeIs}
-use Rattle.plmod.specs.declared.together.Together.{Together}
-use Rattle.plmod.specs.declared.together.Together.TheVariants as T
-use Rattle.plmod.specs.declared.together.WholeFault.{WholeFault}
-use Rattle.plmod.specs.declared.together.WholeFault.TheVariants as W
+use Rattle.plmod.specs.declared.whole_texts.Together.{Together}
+use Rattle.plmod.specs.declared.whole_texts.Together.TheVariants as T
+use Rattle.plmod.specs.declared.whole_texts.WholeFault.{WholeFault}
+use Rattle.plmod.specs.declared.whole_texts.WholeFault.TheVariants as W
 
 -- the fault of the first text that has one, or the units of the texts
 abbrev pub ArePrepared : List Text → Together → Type 0

@@ -1,7 +1,7 @@
 //! Laws of what the program gives.
 ghost use Rattle.plmod.specs.Comes.{OneOutcome, SomeOutcome};
 
-use goal_text::goals_are_decided;
+use goal_runs::goals_are_decided;
 use needs_laws::texts_are_one_whole;
 
 /// Words and files have no more than one outcome.

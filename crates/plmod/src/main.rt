@@ -1,17 +1,17 @@
 //! Runs goals over Prolog texts.
 #![tactic(auto)]
 
+mod answer;
 mod fetch;
-mod growing;
+mod grow;
 mod last;
 mod laws;
-mod made;
-mod preparing;
-mod running;
+mod link;
+mod prepare;
+mod run;
 mod status;
-mod telling;
-mod together;
 mod top;
+mod whole_texts;
 mod words;
 
 use pl_atoms::{Name, NoMemory};
@@ -22,10 +22,10 @@ use std::process::ExitCode;
 use words::Words;
 
 fn main(rt: HostRuntime) -> ExitCode {
-    ExitCode::from(run(&rt) as u8)
+    ExitCode::from(carry_out(&rt) as u8)
 }
 
-fn run(rt: &HostRuntime) -> Status {
+fn carry_out(rt: &HostRuntime) -> Status {
     let Ok(words) = words_of(rt) else {
         return Status::NoMemory;
     };

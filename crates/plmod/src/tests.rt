@@ -30,6 +30,12 @@ fn shelf_with(alloc: Global, text: Option<&str>) -> Result<MemShelf, NoMemory> {
     Ok(shelf)
 }
 
+/// What a command answers. The machine of its run is let go.
+fn status_of(alloc: Global, words: &Words, shelf: &mut MemShelf, out: &mut MemSink) -> Status {
+    let mut last = None;
+    plmod(alloc, words, shelf, out, &mut last)
+}
+
 /// One run over the file `t`.
 fn answer(
     alloc: Global,
@@ -41,8 +47,7 @@ fn answer(
     let words = run_words(alloc, budget, goal)?;
     let mut shelf = shelf_with(alloc, text)?;
     let mut out = MemSink::new(alloc, fails);
-    let mut last = None;
-    let status = plmod(alloc, &words, &mut shelf, &mut out, &mut last);
+    let status = status_of(alloc, &words, &mut shelf, &mut out);
     Ok((out, status))
 }
 
@@ -230,8 +235,7 @@ fn prepared(
         add_short(alloc, &mut shelf, "k", bytes)?;
     }
     let mut out = MemSink::new(alloc, CallList::new(alloc));
-    let mut last = None;
-    let status = plmod(alloc, &words, &mut shelf, &mut out, &mut last);
+    let status = status_of(alloc, &words, &mut shelf, &mut out);
     Ok((shelf, out, status))
 }
 
@@ -372,8 +376,7 @@ fn prepare_source(
         words.push(Name::of(alloc, other)?)?;
     }
     let mut out = MemSink::new(alloc, CallList::new(alloc));
-    let mut last = None;
-    let _status = plmod(alloc, &words, shelf, &mut out, &mut last);
+    let _status = status_of(alloc, &words, shelf, &mut out);
     Ok(())
 }
 
@@ -387,8 +390,7 @@ fn linked(alloc: Global, sources: &[Source], command: &str) -> Result<(MemSink, 
         words.push(Name::of(alloc, source.0)?)?;
     }
     let mut out = MemSink::new(alloc, CallList::new(alloc));
-    let mut last = None;
-    let status = plmod(alloc, &words, &mut shelf, &mut out, &mut last);
+    let status = status_of(alloc, &words, &mut shelf, &mut out);
     Ok((out, status))
 }
 

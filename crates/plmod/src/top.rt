@@ -8,12 +8,12 @@ ghost use Rattle.plmod.specs.Comes.{Comes};
 ghost use Rattle.plmod.specs.Meets.{Meets, bytes_under};
 ghost use Rattle.plmod.specs.Last.{LeavesLast};
 
-use crate::growing::grow;
-use crate::made::put_last;
-use crate::preparing::prepare_text;
-use crate::running::{run_texts, run_units};
+use crate::answer::put_last;
+use crate::grow::grow;
+use crate::link::{Asked, tell_units};
+use crate::prepare::prepare_text;
+use crate::run::{run_texts, run_units};
 use crate::status::Status;
-use crate::telling::{Asked, tell_units};
 use crate::words::{Command, Words, read_words};
 use pl_machine::Machine;
 use plm_io::{QuietShelf, QuietSink, Shelf, Sink};

@@ -12,6 +12,3 @@ pub use counts::{count_line, linked_line, prepared_line, usage_line};
 pub use end::{End2, end_line};
 pub use faults::{fault_line, not_unit_line};
 pub use rows::show_rows;
-
-#[cfg(test)]
-mod tests;

@@ -6,8 +6,8 @@ use Rattle.pl_terms.specs.Trees.{Tree, var, int, atom, comp, Trees, nil, cons}
 use Rattle.pl_terms.specs.NameBounds.{NamesBelow, AllNamesBelow}
 use Rattle.unit_model.specs.Directives.{Text}
 use Rattle.unit_model.specs.declared.facts.SectionKind.TheVariants.{Interface, Body}
-use Rattle.directive_forms.specs.Walks.{first_cell, entered}
-use Rattle.directive_forms.proofs.NameBounds.{entered_below}
+use Rattle.term_walk.specs.Walks.{first_cell, entered}
+use Rattle.term_walk.proofs.NameBounds.{entered_below}
 use Rattle.prep_texts.specs.declared.directives.SectionDirective.TheVariants.{Opens, Ends}
 use Rattle.prep_texts.specs.declared.directives.ModuleSource.TheVariants.{Passing, Taking}
 use Rattle.prep_texts.specs.Sections.{atom_name, section_word, source_word, SourceBelow, DirectiveBelow}

@@ -12,7 +12,7 @@ use Rattle.unit_model.specs.Directives.{Text, Directive, opens, closes, exportin
 use Rattle.unit_model.specs.Encoding.{text_at}
 use Rattle.unit_model.specs.Preparing.{Sort, a_directive, a_query, a_clause, sort_of, Source, no_module, passing, taking, source_of_form, source_of, Said, said}
 use Rattle.unit_model.specs.declared.facts.SectionKind.TheVariants.{Interface, Body}
-use Rattle.directive_forms.specs.Walks.{first_cell, entered, is_functor}
+use Rattle.term_walk.specs.Walks.{first_cell, entered, is_functor}
 use Rattle.prep_texts.specs.declared.directives.SectionDirective.{SectionDirective}
 use Rattle.prep_texts.specs.declared.directives.SectionDirective.TheVariants.{Opens, Ends}
 use Rattle.prep_texts.specs.declared.directives.ModuleSource.{ModuleSource}

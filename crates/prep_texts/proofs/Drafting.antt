@@ -9,7 +9,7 @@ use Rattle.unit_model.specs.Encoding.{text_at}
 use Rattle.unit_model.specs.Views.{need_view, section_view, kind_view, entries_view, entry_view}
 use Rattle.unit_model.specs.Preparing.{Interface, Opened, State, table_in}
 use Rattle.unit_model.specs.declared.facts.Entry.{Entry as CodeEntry}
-use Rattle.preparing_model.specs.Entries.{entries_in, EntriesBelow}
+use Rattle.unit_model.specs.Entries.{entries_in, EntriesBelow}
 use Rattle.prep_texts.specs.Interfaces.{interfaces_view}
 use Rattle.prep_texts.specs.declared.draft.OpenSection.{OpenSection}
 use Rattle.prep_texts.specs.declared.draft.Draft.{Draft}

@@ -8,8 +8,8 @@ use Rattle.unit_model.specs.Encoding.{text_at}
 use Rattle.unit_model.specs.Preparing.{Interface, is_interface, operators_of}
 use Rattle.unit_model.specs.Views.{section_view, kind_view}
 use Rattle.unit_model.specs.declared.facts.Section.{Section as CodeSection}
-use Rattle.preparing_model.specs.Entries.{entries_in}
-use Rattle.preparing_model.specs.Known.{interface_of}
+use Rattle.unit_model.specs.Entries.{entries_in}
+use Rattle.unit_model.specs.Known.{interface_of}
 use Rattle.prep_texts.specs.declared.interfaces.Interfaces.{Interfaces}
 use Rattle.prep_texts.specs.Interfaces.{interfaces_view, IsIndexed, IsGrown}
 use Rattle.prep_texts.specs.Drafts.{sections_in}

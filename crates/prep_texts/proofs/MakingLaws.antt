@@ -10,7 +10,7 @@ use Rattle.unit_model.specs.declared.facts.OpDecl.{OpDecl}
 use Rattle.unit_model.specs.declared.facts.What.{What}
 use Rattle.unit_model.specs.declared.facts.What.TheVariants.{Export, ReexportAll, Reexport, Meta, Operator, ImportAll, Import, Clause}
 use Rattle.unit_model.specs.declared.facts.Entry.{Entry as CodeEntry}
-use Rattle.preparing_model.specs.Entries.{entries_in}
+use Rattle.unit_model.specs.Entries.{entries_in}
 use Rattle.prep_texts.specs.declared.interfaces.KnownOperator.{KnownOperator}
 use Rattle.prep_texts.specs.Interfaces.{operator_view, operators_view}
 use Rattle.prep_texts.proofs.TableLaws.{append-end}

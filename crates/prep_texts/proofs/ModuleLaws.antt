@@ -8,7 +8,7 @@ use Rattle.prep_texts.specs.declared.draft.OpenSection.{OpenSection}
 use Rattle.prep_texts.specs.declared.draft.Draft.{Draft}
 use Rattle.prep_texts.specs.Looking.{extended, accepts_all}
 use Rattle.prep_texts.specs.Interfaces.{interfaces_view}
-use Rattle.prep_texts.specs.Seen.{Seen, NextSeen, seen, is_needed, needing, looking, holding, table_seen, imported, passed, sourced_seen, told_seen, taken_seen, passed_seen, imported_seen, with_said_seen}
+use Rattle.prep_texts.specs.Seen.{Seen, NextSeen, seen, is_needed, needing, looking, holding, table_seen, imported, passed, sourced_seen}
 use Rattle.prep_texts.specs.Drafts.{state_of, modules_known, TakesNeed, TakesOperators, Refuses}
 use Rattle.prep_texts.proofs.InterfaceLaws.{known-append}
 use Rattle.prep_texts.proofs.NeedLaws.{known-held, kept-if}

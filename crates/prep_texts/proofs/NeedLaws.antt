@@ -1,5 +1,5 @@
 -- Needs noted one after another.
-use Rattle.std.proofs.Common.{◌≡◌, ℕ, zero, suc, ◌+◌, ◌<◌, ◌≤◌, Bool, true, false, cond, not, nat_lt, ◌||◌, List, [], ◌∷◌, ◌++◌, map, length, Option, Some, None, is_some, refl, sym, ap, ◌∙◌, subst, if◌then◌else◌, arith, position}
+use Rattle.std.proofs.Common.{◌≡◌, ℕ, suc, ◌+◌, ◌<◌, ◌≤◌, Bool, true, false, cond, not, nat_lt, ◌||◌, List, [], ◌∷◌, ◌++◌, map, length, Option, Some, None, is_some, refl, sym, ap, ◌∙◌, subst, if◌then◌else◌, arith}
 use Prim.Native.Nat.compare
 use Rattle.std.specs.Prelude.{option_map}
 use Rattle.std.specs.List.{list_any, position_or_len, AllByRecursion, flat_map}
@@ -17,7 +17,7 @@ use Rattle.unit_model.specs.declared.facts.OpDecl.{OpDecl}
 use Rattle.unit_model.specs.declared.facts.Need.{Need as CodeNeed}
 use Rattle.prep_texts.specs.declared.interfaces.KnownInterface.{KnownInterface}
 use Rattle.prep_texts.specs.declared.draft.Draft.{Draft}
-use Rattle.prep_texts.specs.Interfaces.{interface_view, interfaces_view, IsBelow}
+use Rattle.prep_texts.specs.Interfaces.{interface_view, IsBelow}
 use Rattle.prep_texts.specs.Seen.{Seen, seen, is_needed, needing}
 use Rattle.prep_texts.specs.Drafts.{needs_in, state_of, IsWell}
 use Rattle.prep_texts.proofs.Agreeing.{whole, front-agrees}

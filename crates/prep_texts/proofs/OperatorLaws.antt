@@ -1,9 +1,8 @@
 -- Operators of interfaces, put into tables and needs one after another.
 use Rattle.std.proofs.Common.{◌≡◌, ℕ, ◌+◌, ◌<◌, ◌≤◌, true, false, not, ◌&&◌, List, [], ◌∷◌, ◌++◌, map, length, take, drop, get_or, slice_get, Option, Some, None, is_some, Err, refl, sym, ap, ◌∙◌, if◌then◌else◌, arith, zero, suc, drop-cons, add-one, subst}
-use Rattle.std.proofs.lemmas.List.{take_more}
+use Rattle.std.proofs.lemmas.List.{take_more, map-append}
 use Rattle.std.specs.List.{AllByRecursion}
 use Rattle.std.proofs.Math.Path.{fun_ext}
-use Rattle.std.proofs.lemmas.List.{map-append}
 use Rattle.std.proofs.lemmas.Option.{get_or_from_slice_get}
 use Rattle.pl_atoms.specs.Names.{IsFront, with_text}
 use Rattle.pl_atoms.proofs.Numbers.{IsFront-grown, IsFront-trans, length-front}

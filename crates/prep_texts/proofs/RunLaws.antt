@@ -1,19 +1,14 @@
 -- Runs of tokens taken one after another.
-use Rattle.std.proofs.Common.{◌≡◌, ℕ, zero, suc, ◌<◌, ◌≤◌, List, [], ◌∷◌, ◌++◌, map, length, Bool, true, false, Option, Some, None, Result, Ok, Err, refl, sym, ap, ◌∙◌, subst, arith, length-append, inl, inr, nat_eq, if◌then◌else◌, eqb-true}
+use Rattle.std.proofs.Common.{◌≡◌, ℕ, List, ◌∷◌, length, Bool, true, false, Option, Some, None, Result, Ok, Err, refl, sym, ap, ◌∙◌, subst, inl, inr, nat_eq, if◌then◌else◌, eqb-true}
 use Rattle.pl_terms.specs.Trees.{Tree}
-use Rattle.pl_ops.specs.Tables.{Operators, operator}
-use Rattle.text_model.specs.Tokens.{Token as ModelToken, stop, Run, run, run_fault, cut_short, ended, next_run}
-use Rattle.text_model.specs.Grammar.{max_priority}
-use Rattle.text_model.specs.Reading.{numbered, ReadsTokens}
+use Rattle.pl_ops.specs.Tables.{operator}
+use Rattle.text_model.specs.Tokens.{Run, run, run_fault, cut_short, ended, next_run}
 use Rattle.pl_tokens.specs.declared.token.Token.{Token}
 use Rattle.pl_tokens.specs.declared.token.TokenFault.{TokenFault}
 use Rattle.pl_tokens.specs.declared.token.TokenFault.TheVariants.{Fault as TokenFaultOf, NoMemory as NoTokenMemory}
-use Rattle.pl_tokens.specs.Views.{token_view, tokens_view, kind_view}
+use Rattle.pl_tokens.specs.Views.{tokens_view}
 use Rattle.pl_tokens.specs.Reader.{Reader, start_of, run_of, past_run}
 use Rattle.pl_tokens.specs.Runs.{fault_run}
-use Rattle.pl_reader.specs.Runs.{IsRead, last_of, body_of}
-use Rattle.pl_reader.specs.Reads.{ReadsRun as ReadsCode, first_byte as code_first_byte}
-use Rattle.pl_reader.proofs.RunFacts.{has_end}
 use Rattle.unit_model.specs.Facts.{Facts}
 use Rattle.unit_model.specs.Directives.{Text}
 use Rattle.unit_model.specs.Preparing.{Interface, State, Opened, Next, start, table_in, facts_of, step}

@@ -12,7 +12,7 @@ use Rattle.unit_model.specs.Views.{section_view, kind_view}
 use Rattle.unit_model.specs.declared.facts.Section.{Section as CodeSection}
 use Rattle.unit_model.specs.declared.facts.SectionKind.{SectionKind as CodeKind}
 use Rattle.unit_model.specs.declared.facts.SectionKind.TheVariants.{Interface as InterfaceKind, Body as BodyKind}
-use Rattle.preparing_model.specs.Entries.{entries_in}
+use Rattle.unit_model.specs.Entries.{entries_in}
 use Rattle.prep_texts.specs.declared.interfaces.KnownInterface.{KnownInterface}
 use Rattle.prep_texts.specs.declared.interfaces.Interfaces.{Interfaces}
 use Rattle.prep_texts.specs.declared.draft.OpenSection.{OpenSection}

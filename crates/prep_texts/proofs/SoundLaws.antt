@@ -13,8 +13,8 @@ use Rattle.unit_model.specs.declared.facts.Facts.{Facts as CodeFacts}
 use Rattle.unit_model.specs.Encoding.{facts_in}
 use Rattle.unit_model.specs.Views.{facts_view}
 use Rattle.unit_format.specs.Units.{IsUnitOf}
-use Rattle.preparing_model.specs.Entries.{IsSound}
-use Rattle.preparing_model.specs.Known.{IsGoodInterface, AreGood, interfaces_of}
+use Rattle.unit_model.specs.Entries.{IsSound}
+use Rattle.unit_model.specs.Known.{IsGoodInterface, AreGood, interfaces_of}
 use Rattle.preparing_laws.specs.Readings.{BeginsRun, at_front, at_end, ReadsSoundly}
 use Rattle.preparing_laws.proofs.Ends.{prepared-sound, interfaces-good}
 use Rattle.reading_laws.specs.Places.{IsPlace}

@@ -1,5 +1,5 @@
 -- A term that opens and ends no section.
-use Rattle.std.proofs.Common.{◌≡◌, ℕ, ◌<◌, ◌≤◌, Bool, true, false, ◌||◌, List, [], ◌∷◌, ◌++◌, map, length, Option, Some, None, Result, Ok, Err, refl, sym, ap, ◌∙◌, if◌then◌else◌, subst, IfSome}
+use Rattle.std.proofs.Common.{◌≡◌, ℕ, Bool, true, false, List, [], ◌∷◌, ◌++◌, map, length, Option, Some, None, Ok, Err, refl, sym, ap, ◌∙◌, if◌then◌else◌, subst, IfSome}
 use Rattle.std.specs.List.{AllByRecursion, flat_map}
 use Rattle.pl_atoms.specs.Names.{IsFront}
 use Rattle.pl_terms.specs.Trees.{Tree}
@@ -10,8 +10,8 @@ use Rattle.unit_model.specs.Encoding.{text_at}
 use Rattle.unit_model.specs.Views.{entries_view}
 use Rattle.unit_model.specs.Preparing.{Interface, State, Sort, a_directive, a_query, a_clause, sort_of, sort_said, said, operators_known, declaration, entries_at, Source, no_module, passing, taking, source_of, table_in, in_interface, with_said, sort_step, step}
 use Rattle.unit_model.specs.declared.facts.Entry.{Entry as CodeEntry}
-use Rattle.preparing_model.specs.Entries.{entries_in, EntriesBelow}
-use Rattle.preparing_model.specs.Saying.{IsSectionDirective, Says}
+use Rattle.unit_model.specs.Entries.{entries_in, EntriesBelow}
+use Rattle.unit_model.specs.Saying.{IsSectionDirective, Says}
 use Rattle.prep_texts.specs.declared.directives.ModuleSource.{ModuleSource}
 use Rattle.prep_texts.specs.declared.directives.ModuleSource.TheVariants.{Passing, Taking}
 use Rattle.prep_texts.specs.declared.draft.OpenSection.{OpenSection}

@@ -13,7 +13,7 @@ use Rattle.unit_model.specs.declared.facts.Facts.{Facts as CodeFacts}
 use Rattle.unit_model.specs.declared.facts.Need.{Need as CodeNeed}
 use Rattle.unit_model.specs.declared.facts.Section.{Section as CodeSection}
 use Rattle.unit_model.specs.declared.facts.SectionKind.TheVariants.{Body}
-use Rattle.preparing_model.specs.Entries.{entries_in, FactsBelow}
+use Rattle.unit_model.specs.Entries.{entries_in, FactsBelow}
 use Rattle.prep_texts.specs.declared.draft.Draft.{Draft}
 use Rattle.prep_texts.specs.Interfaces.{IsBelow}
 use Rattle.prep_texts.specs.Drafts.{needs_in, sections_in, user_of, state_of, IsWell}

@@ -12,7 +12,7 @@ use Rattle.unit_model.specs.declared.facts.Need.{Need as CodeNeed}
 use Rattle.unit_model.specs.declared.facts.Entry.{Entry as CodeEntry}
 use Rattle.unit_model.specs.declared.facts.Section.{Section as CodeSection}
 use Rattle.unit_model.specs.declared.facts.SectionKind.{SectionKind as CodeKind}
-use Rattle.preparing_model.specs.Entries.{entries_in, EntriesBelow}
+use Rattle.unit_model.specs.Entries.{entries_in, EntriesBelow}
 use Rattle.prep_texts.specs.Looking.{extended, accepts_all}
 use Rattle.prep_texts.specs.Seen.{seen, needing}
 use Rattle.prep_texts.specs.Interfaces.{interfaces_view, IsIndexed, IsBelow}

@@ -5,12 +5,12 @@ ghost use Rattle.std.specs.Option.{option_map};
 ghost use Rattle.pl_ops.specs.Tables.{Declaration};
 ghost use Rattle.pl_terms.specs.Order.{texts_of};
 ghost use Rattle.unit_model.specs.Preparing.{Said, sort_of, said, source_of};
-ghost use Rattle.directive_forms.specs.Walks.{first_cell};
+ghost use Rattle.term_walk.specs.Walks.{first_cell};
 ghost use Rattle.prep_texts.specs.Sections as spec;
 
-use directive_forms::{Walk, text};
 use pl_atoms::{NameId, Names};
 use pl_terms::{Cell, Term};
+use term_walk::{Walk, text};
 use unit_model::SectionKind;
 
 /// A directive that opens or ends a section, and its module where its argument is an atom (ISO/IEC 13211-2, 6.2).

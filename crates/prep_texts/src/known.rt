@@ -2,7 +2,7 @@
 ghost use Rattle.std.specs.Prelude.{◌≡◌, [], ◌++◌, IfSome, IfNone, OnOk, OnErr, Some, None};
 ghost use Rattle.unit_format.specs.Views.{unit_facts};
 ghost use Rattle.unit_model.specs.Preparing.{operators_known};
-ghost use Rattle.preparing_model.specs.Known.{interfaces_of, AreGood};
+ghost use Rattle.unit_model.specs.Known.{interfaces_of, AreGood};
 ghost use Rattle.prep_texts.specs.Interfaces.{operators_view, interfaces_view, IsIndexed, IsGrown};
 
 use crate::interfaces::{Interfaces, KnownOperator};
@@ -28,7 +28,7 @@ impl Model for Known {
     ghost Value = { List Interface };
 
     ghost use Rattle.prep_texts.specs.Interfaces.{interfaces_view, IsIndexed};
-    ghost use Rattle.preparing_model.specs.Known.{AreGood};
+    ghost use Rattle.unit_model.specs.Known.{AreGood};
 
     ghost view = { λ k. interfaces_view k.interfaces };
 

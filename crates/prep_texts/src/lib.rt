@@ -18,6 +18,3 @@ mod terms;
 pub use fault::PrepFault;
 pub use known::Known;
 pub use preparing::prepare;
-
-#[cfg(test)]
-mod tests;

@@ -2,14 +2,14 @@
 ghost use Rattle.std.specs.Prelude.{◌≡◌, IfOk};
 ghost use Rattle.unit_model.specs.Encoding.{text_at};
 ghost use Rattle.unit_model.specs.Preparing.{operators_of};
-ghost use Rattle.preparing_model.specs.Entries.{entries_in};
+ghost use Rattle.unit_model.specs.Entries.{entries_in};
 ghost use Rattle.prep_texts.specs.Interfaces.{interface_view};
 
 use crate::interfaces::{KnownInterface, KnownOperator};
-use directive_forms::text;
 use pl_atoms::{Bytes, Items, NameId, Names, NoMemory};
 use pl_ops::Op;
 use std::alloc::Global;
+use term_walk::text;
 use unit_model::{Entry, What};
 
 /// The interface of this module with the operators of these entries, in their order.

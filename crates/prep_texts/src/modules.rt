@@ -5,15 +5,15 @@ ghost use Rattle.pl_ops.specs.Tables.{operator};
 ghost use Rattle.unit_model.specs.Encoding.{text_at};
 ghost use Rattle.prep_texts.specs.Drafts.{state_of, IsWell, TakesNeed, TakesOperators, Refuses, modules_known};
 ghost use Rattle.prep_texts.specs.Seen.{seen};
-ghost use Rattle.entry_forms.specs.declared.fault.DirFault.TheVariants.{Fault as FaultOf};
+ghost use Rattle.mod_directives.specs.declared.fault.DirFault.TheVariants.{Fault as FaultOf};
 
 use crate::draft::Draft;
 use crate::known::Known;
 use crate::operators::add_operators;
-use directive_forms::text;
-use entry_forms::DirFault;
+use mod_directives::DirFault;
 use pl_atoms::NameId;
 use std::alloc::Global;
+use term_walk::text;
 
 impl Draft {
     /// Notes the need of a module. Fault 11 exactly where no interface of it is known.

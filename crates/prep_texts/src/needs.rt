@@ -10,9 +10,9 @@ ghost use Rattle.prep_texts.specs.Drafts.{state_of, IsWell};
 use crate::draft::Draft;
 use crate::interfaces::KnownOperator;
 use crate::operators::interned;
-use directive_forms::text;
 use pl_atoms::{NameId, NoMemory};
 use std::alloc::Global;
+use term_walk::text;
 use unit_model::Need;
 
 impl Draft {

@@ -10,10 +10,10 @@ ghost use Rattle.unit_model.specs.Views.{ops_view};
 ghost use Rattle.unit_model.specs.Preparing.{declaration, refusal_of_operator};
 ghost use Rattle.prep_texts.specs.Interfaces.{operator_view, operators_view, IsBelow};
 ghost use Rattle.prep_texts.specs.Looking.{extended, accepts_all};
-ghost use Rattle.entry_forms.specs.declared.fault.DirFault.TheVariants.{Fault as FaultOf};
+ghost use Rattle.mod_directives.specs.declared.fault.DirFault.TheVariants.{Fault as FaultOf};
 
 use crate::interfaces::KnownOperator;
-use entry_forms::DirFault;
+use mod_directives::DirFault;
 use pl_atoms::{Names, NoMemory};
 use pl_ops::{Kind, OpRefusal, OpTable};
 use std::alloc::Global;

@@ -3,7 +3,7 @@ ghost use Rattle.std.specs.Prelude.{◌≡◌, ◌≤◌, List, [], ℕ, length,
 ghost use Rattle.unit_format.specs.Views.{unit_facts};
 ghost use Rattle.unit_model.specs.Prepared.{Prepared, FirstFault};
 ghost use Rattle.unit_model.specs.Preparing.{Interface, start, facts_of};
-ghost use Rattle.preparing_model.specs.Entries.{IsSound};
+ghost use Rattle.unit_model.specs.Entries.{IsSound};
 ghost use Rattle.pl_tokens.specs.Views.{tokens_view};
 ghost use Rattle.pl_reader.specs.Runs.{IsRead};
 ghost use Rattle.pl_reader.specs.Reads as reads;
@@ -16,7 +16,7 @@ use crate::draft::Draft;
 use crate::fault::PrepFault;
 use crate::interfaces::Interfaces;
 use crate::known::Known;
-use entry_forms::DirFault;
+use mod_directives::DirFault;
 use pl_atoms::{Items, Names, NoMemory};
 use pl_ops::OpTable;
 use pl_reader::{ReadFault, read};

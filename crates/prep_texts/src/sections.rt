@@ -9,17 +9,17 @@ ghost use Rattle.unit_model.specs.Facts.{body};
 ghost use Rattle.prep_texts.specs.Drafts.{state_of, closes_section, IsWell};
 ghost use Rattle.prep_texts.specs.Seen.{seen, opened_section, open_interface_seen, open_named_seen, opened_seen, closed_seen};
 ghost use Rattle.prep_texts.specs.Sections.{module_text};
-ghost use Rattle.entry_forms.specs.declared.fault.DirFault.TheVariants.{Fault as FaultOf};
+ghost use Rattle.mod_directives.specs.declared.fault.DirFault.TheVariants.{Fault as FaultOf};
 
 use crate::draft::{Draft, OpenSection};
 use crate::known::Known;
 use crate::making::interface_made;
-use directive_forms::text;
-use entry_forms::DirFault;
+use mod_directives::DirFault;
 use pl_atoms::{NameId, Names, NoMemory};
 use pl_ops::OpTable;
 use std::alloc::Global;
 use std::mem;
+use term_walk::text;
 use unit_model::{Entries, Section, SectionKind};
 
 /// Whether a section of this kind is an interface.

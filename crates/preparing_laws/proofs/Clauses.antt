@@ -11,7 +11,7 @@ use Rattle.unit_model.specs.Builtins.{is_builtin}
 use Rattle.unit_model.specs.Preparing.{clause_in}
 use Rattle.unit_model.specs.Validity as units
 use Rattle.unit_model.specs.Validity.{IsName, FitsWhat, is_head, is_converted, are_converted, is_clause, is_for_interface, names_known}
-use Rattle.preparing_model.specs.Entries.{IsSoundTerm}
+use Rattle.unit_model.specs.Entries.{IsSoundTerm}
 use Rattle.preparing_laws.proofs.Forms.{Fits}
 use Rattle.preparing_laws.proofs.Tests.{same_text-from}
 

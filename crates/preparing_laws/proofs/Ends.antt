@@ -8,8 +8,8 @@ use Rattle.unit_model.specs.Preparing.{Interface, State, table_in, facts_of, is_
 use Rattle.unit_model.specs.Prepared.{first_byte, Prepares, ends, goes_on, Prepared}
 use Rattle.unit_model.specs.Validity as units
 use Rattle.unit_model.specs.Validity.{IsName, FitsOperator, FitsWhat, FitsEntry, FitsSection, IsValid, is_user, is_system, is_interface, has_its_entries, is_accepted, is_clause, own_modules, holds, are_needs, names_known, knows, all_known, keeps_rules, begins_with_user}
-use Rattle.preparing_model.specs.Entries.{IsSoundNeed, IsSoundSection, IsSound}
-use Rattle.preparing_model.specs.Known.{interface_of, interfaces_of, IsGoodInterface, AreGood}
+use Rattle.unit_model.specs.Entries.{IsSoundNeed, IsSoundSection, IsSound}
+use Rattle.unit_model.specs.Known.{interface_of, interfaces_of, IsGoodInterface, AreGood}
 use Rattle.preparing_laws.specs.States.{modules, IsSoundTaking, IsSoundEntry, IsSoundPart, IsSoundState}
 use Rattle.preparing_laws.specs.Readings.{BeginsRun, at_front, at_end, ReadsSoundly}
 use Rattle.preparing_laws.proofs.Lists.{all-append, all-weaker, all-tests}

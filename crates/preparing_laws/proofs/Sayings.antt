@@ -7,7 +7,7 @@ use Rattle.unit_model.specs.Facts.{Indicator, What, exports, reexports_all, reex
 use Rattle.unit_model.specs.Directives.{Text, Directive, opens, closes, exporting, reexporting, metapredicates, operators, importing, discontiguous, directive_of}
 use Rattle.unit_model.specs.Preparing.{with_names, added, operator_of, declaration, operators_of, operator_in, entries_at, Saying, says, reexport_entries, import_entries, operator_entries, operators_said, directive_said, clause_in, with_clause, clause_said, Sort, a_directive, a_query, a_clause, unary_sort, sort_of, sort_said, Source, no_module, passing, taking, source_of_directive, source_of}
 use Rattle.unit_model.specs.Validity.{IsName, FitsWhat, FitsIndicator, same_bool, is_for_interface, is_clause, names_known, holds, accepts}
-use Rattle.preparing_model.specs.Entries.{IsSoundTerm}
+use Rattle.unit_model.specs.Entries.{IsSoundTerm}
 use Rattle.preparing_laws.proofs.Lists.{OfSome, all-map, all-weaker, either-way}
 use Rattle.preparing_laws.proofs.Forms.{Fits, FitsModes, FitsDirective, FitsForm, directive-fit}
 use Rattle.preparing_laws.proofs.Clauses.{IsClauseIn, clause-sound}

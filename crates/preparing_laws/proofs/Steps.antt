@@ -10,8 +10,8 @@ use Rattle.unit_model.specs.Facts.{OperatorOf, Need, Entry, What, declares, Sect
 use Rattle.unit_model.specs.Directives.{Text, Directive, opens, closes, exporting, reexporting, metapredicates, operators, importing, discontiguous}
 use Rattle.unit_model.specs.Preparing.{Interface, Opened, State, start, table_in, Next, operators_known, with_need, with_entries_in, entries_at, with_operators, in_interface, open_section, is_reserved, open_interface, open_body, open_named, opened, operator_in, operators_of, close_section, closes_this, closed, declaration, Said, Saying, Sort, a_directive, a_query, a_clause, sort_of, sort_said, Source, no_module, passing, taking, source_of, told, taken, sourced, with_said, directive_step, sort_step, step}
 use Rattle.unit_model.specs.Validity.{IsName, FitsOperator, is_interface, is_accepted, accepts, own_modules, holds, are_needs}
-use Rattle.preparing_model.specs.Entries.{IsSoundTerm}
-use Rattle.preparing_model.specs.Known.{AreGood, IsGoodInterface}
+use Rattle.unit_model.specs.Entries.{IsSoundTerm}
+use Rattle.unit_model.specs.Known.{AreGood, IsGoodInterface}
 use Rattle.preparing_laws.specs.States.{modules, IsSoundInterface, IsSoundTaking, IsSoundEntry, IsSoundPart, IsSoundOpened, IsSoundState}
 use Rattle.preparing_laws.proofs.Lists.{OfSome, all-append, all-map, all-weaker, filter_map-append, either-way}
 use Rattle.preparing_laws.proofs.Tests.{no_both, holds-front, holds-back, holds-either, holds-one}

@@ -12,7 +12,7 @@ use Rattle.unit_model.specs.Facts.{OperatorOf, What, declares, Entry, Section}
 use Rattle.unit_model.specs.Directives.{Text}
 use Rattle.unit_model.specs.Preparing.{unless_refused, with_names, added, operator_of, declaration, operators_of, operator_in, entries_at}
 use Rattle.unit_model.specs.Validity as units
-use Rattle.unit_model.specs.Validity.{IsName, FitsOperator, has_other, is_barred, is_refused, accepts}
+use Rattle.unit_model.specs.Validity.{IsName, has_other, is_barred, is_refused, accepts}
 use Rattle.preparing_laws.proofs.Lists.{OfSome}
 
 -- ---- what is not refused is accepted

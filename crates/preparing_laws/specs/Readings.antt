@@ -5,7 +5,7 @@ use Rattle.pl_ops.specs.Tables.{Declaration, operator}
 use Rattle.text_model.specs.Tokens.{Token, run, next_run}
 use Rattle.unit_model.specs.Directives.{Text}
 use Rattle.unit_model.specs.Prepared.{ReadsRun, first_byte}
-use Rattle.preparing_model.specs.Entries.{IsSoundTerm}
+use Rattle.unit_model.specs.Entries.{IsSoundTerm}
 
 -- the places where the runs of a text begin: its front, and the end of each run
 pub data BeginsRun (text : List ℕ) : ℕ → Type 0 where

@@ -6,7 +6,7 @@ use Rattle.unit_model.specs.Facts.{Need, Entry, SectionKind, body, Section}
 use Rattle.unit_model.specs.Directives.{Text}
 use Rattle.unit_model.specs.Preparing.{Interface, Opened, State, operators_known, operators_of, declaration, is_reserved}
 use Rattle.unit_model.specs.Validity.{IsName, FitsOperator, FitsEntry, is_interface, is_for_interface, same_bool, is_accepted, is_clause, own_modules, holds, are_needs, names_known}
-use Rattle.preparing_model.specs.Entries.{IsSoundNeed}
+use Rattle.unit_model.specs.Entries.{IsSoundNeed}
 
 -- the modules that have an interface in the text, or are taken from elsewhere
 abbrev pub modules : State → List Text

@@ -8,8 +8,8 @@ ghost use Rattle.unit_model.specs.Directives.{Text};
 ghost use Rattle.unit_model.specs.Preparing.{Interface, State, start, facts_of, step};
 ghost use Rattle.unit_model.specs.Prepared.{Prepared};
 ghost use Rattle.unit_model.specs.Validity.{IsValid};
-ghost use Rattle.preparing_model.specs.Entries.{IsSoundTerm, IsSound};
-ghost use Rattle.preparing_model.specs.Known.{AreGood, interfaces_of};
+ghost use Rattle.unit_model.specs.Entries.{IsSoundTerm, IsSound};
+ghost use Rattle.unit_model.specs.Known.{AreGood, interfaces_of};
 ghost use Rattle.preparing_laws.specs.States.{IsSoundState};
 ghost use Rattle.preparing_laws.specs.Readings.{ReadsSoundly};
 

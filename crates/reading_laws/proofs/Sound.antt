@@ -10,7 +10,7 @@ use Rattle.text_model.specs.Tokens.{Lexeme, name, quoted, variable, integer, tex
 use Rattle.text_model.specs.Grammar.{max_priority}
 use Rattle.text_model.specs.Reading.{items_of, at_operand, Numbered, ReadsTokens}
 use Rattle.unit_model.specs.Validity.{IsName}
-use Rattle.preparing_model.specs.Entries.{IsSoundTerm}
+use Rattle.unit_model.specs.Entries.{IsSoundTerm}
 use Rattle.pl_tokens.specs.Facts.{IsLexeme}
 use Rattle.pl_reader.specs.Numbering.{Met, lexeme_at, met_after, numbered_from}
 use Rattle.pl_reader.proofs.TokenSteps.{numbered-step}

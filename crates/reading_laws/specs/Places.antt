@@ -5,7 +5,7 @@ use Rattle.pl_ops.specs.Tables.{Operators}
 use Rattle.text_model.specs.Tokens.{Token, run, next_run, valid_of}
 use Rattle.unit_model.specs.Directives.{Text}
 use Rattle.unit_model.specs.Prepared.{ReadsRun, first_byte}
-use Rattle.preparing_model.specs.Entries.{IsSoundTerm}
+use Rattle.unit_model.specs.Entries.{IsSoundTerm}
 
 -- a character of the text begins there, or the bytes before the first ill-formed one end there
 pub record IsPlace (text : List ℕ) (k : ℕ) : Type 0 where

@@ -5,14 +5,14 @@ use Rattle.std.specs.Fmt.{digits}
 use Rattle.std.specs.Str.{chars, is_utf8}
 use Rattle.std.specs.Str.Lossy.{utf8_valid_len}
 use lib.Utf8.{encode}
-use Rattle.pl_terms.specs.Trees.{Tree, var, int, atom, comp, Trees, nil, cons}
+use Rattle.pl_terms.specs.Trees.{Tree, var, int, atom, comp, nil, cons}
 use Rattle.pl_ops.specs.Tables.{Declaration, operator}
 use Rattle.pl_ops.specs.Standard.{standard}
 use Rattle.pl_ops.specs.declared.op.Kind.{Kind}
 use Rattle.pl_ops.specs.declared.op.Kind.TheVariants.{Xfy as xfy, Yfx as yfx, Fy as fy, Xfx as xfx}
-use Rattle.text_model.specs.Tokens.{Token, Lexeme, name, integer, variable, stop, Run, run, run_fault, cut_short, ended, next_run, skip, body, run_from}
+use Rattle.text_model.specs.Tokens.{name, stop, run, run_fault, cut_short, ended, next_run, skip, body, run_from}
 use Rattle.text_model.specs.Writing.{written}
-use Rattle.text_model.specs.declared.Quote.TheVariants.{Quoted as quotes, Plain as plain}
+use Rattle.text_model.specs.declared.Quote.TheVariants.{Quoted as quotes}
 
 abbrev declared : ℕ → Kind → List ℕ → Declaration
 declared p k s = record { op = record { priority = p; kind = k }; name = s }

@@ -1,5 +1,5 @@
 -- Written terms: the pieces of a tree, and the spaces between them.
-use Rattle.std.specs.Prelude.{◌≡◌, ℕ, ℤ, pos, negsuc, zero, suc, ◌+◌, ◌-◌, ◌*◌, ◌<◌, ◌≤◌, List, [], ◌∷◌, ◌++◌, length, map, codes, nat_eq, nat_lt, nat_le, Bool, true, false, ◌&&◌, ◌||◌, if◌then◌else◌, Option, Some, None, is_some}
+use Rattle.std.specs.Prelude.{ℕ, ℤ, pos, negsuc, suc, ◌+◌, ◌-◌, List, [], ◌∷◌, ◌++◌, length, map, codes, nat_eq, nat_lt, nat_le, Bool, true, false, ◌&&◌, ◌||◌, if◌then◌else◌, Option, Some, None, is_some}
 use Rattle.std.specs.Fmt.{decimal}
 use Rattle.std.specs.List.{list_all, flat_map}
 use Rattle.pl_terms.specs.Trees.{Tree, var, int, atom, comp, Trees, nil, cons}
@@ -225,7 +225,7 @@ is_parted p r =
     (is_alnum last && is_alnum first)
     || ((is_symbol last && is_symbol first)
     || ((is_letters p || is_letters r)
-    || ((is_sign_before p && nat_eq first 40)
+    || ((is_sign_before p && same_text r.text (codes "("))
     || ((is_sign_before p && (same_text p.text (codes "-") && is_digit first))
     || (nat_eq last 39 && nat_eq first 39)))))
 

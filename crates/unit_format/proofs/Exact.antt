@@ -5,10 +5,8 @@ use Rattle.std.proofs.lemmas.Bool.{and_parts, and_from, ltb-false, le-ltb}
 use Rattle.pl_terms.specs.Trees.{Tree, var, int, atom, comp, Trees, nil, cons, count, renamed, all_renamed}
 use Rattle.pl_ops.specs.Tables.{same_text}
 use Rattle.pl_terms.specs.Occurrence.{first_after, from_to}
-use Rattle.unit_model.specs.Facts.{Indicator, OperatorOf, Need, What, exports, reexports_all, reexports, has_modes, declares, imports_all, imports, clause, Entry, Section, Facts, names_of, facts_by, operator_by, need_by, entry_by, section_by, what_by, indicator_by}
-use Rattle.unit_model.specs.Encoding.{distinct_after, table_of, text_at, text_place, IsInOrder}
-use Rattle.unit_model.specs.Facts.{tree_names, trees_names, need_names, what_names, section_names}
-use Rattle.unit_model.specs.Encoding.{holds_text, unless_held}
+use Rattle.unit_model.specs.Facts.{Indicator, OperatorOf, Need, What, exports, reexports_all, reexports, has_modes, declares, imports_all, imports, clause, Entry, Section, Facts, names_of, facts_by, operator_by, need_by, entry_by, section_by, what_by, indicator_by, tree_names, trees_names, need_names, what_names, section_names}
+use Rattle.unit_model.specs.Encoding.{distinct_after, table_of, text_at, text_place, IsInOrder, holds_text, unless_held}
 use Rattle.unit_model.specs.Validity.{Text, IsName, IsValid, IsUnit, keeps_rules, FitsTree, FitTrees, FitsIndicator, FitsOperator, FitsWhat, FitsEntry, FitsNeed, FitsSection, FitsFacts}
 use Rattle.pl_atoms.proofs.Texts.{same_text-is, same_text-itself}
 use Rattle.unit_format.specs.Reading.{◌>>=◌, Raw, raw_of}

@@ -11,9 +11,7 @@ use Rattle.pl_terms.specs.Trees.{Tree, var, int, atom, comp, Trees, nil, cons, c
 use Rattle.pl_terms.specs.Cells.{cells, all_cells, forest, IsForest, IsTerm, IsCell, tree_of}
 use Rattle.pl_terms.specs.Forest.{tree_of-cells, forest-cells}
 use Rattle.std.proofs.lemmas.List.Elements.{All-from_recursion}
-use Rattle.unit_format.proofs.CellLaws.{cells-tree_of}
-use Rattle.unit_format.proofs.CellLaws.{IsTerm-cells}
-use Rattle.unit_format.proofs.CellLaws.{count-back}
+use Rattle.unit_format.proofs.CellLaws.{cells-tree_of, IsTerm-cells, count-back}
 use Rattle.pl_atoms.specs.declared.names.NameId.{NameId}
 use Rattle.pl_terms.specs.declared.cell.Cell.{Cell}
 use Rattle.pl_terms.specs.declared.cell.Cell.TheVariants.{Var, Int, Name, Comp}

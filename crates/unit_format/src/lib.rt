@@ -22,6 +22,3 @@ pub use encoding::encode;
 pub use fault::{EncodeFault, UnitFault};
 pub use laws::{encoding_law, unit_law};
 pub use unit::Unit;
-
-#[cfg(test)]
-mod tests;

@@ -1,13 +1,12 @@
 -- Worked cases: the bytes of small units, and what single terms of a text do.
-use Rattle.std.proofs.Common.{◌≡◌, ℕ, List, [], ◌∷◌, codes, refl, Result, Ok, Err, Option, Some, None}
+use Rattle.std.proofs.Common.{◌≡◌, ℕ, List, [], ◌∷◌, codes, refl, Ok, Err, Option, Some, None}
 use Rattle.std.specs.Prelude.{pos}
-use Rattle.pl_terms.specs.Trees.{Tree, var, int, atom, comp, Trees, nil, cons}
-use Rattle.pl_ops.specs.Standard.{standard}
-use Rattle.unit_model.specs.Facts.{Facts, Entry, clause, body, exports}
+use Rattle.pl_terms.specs.Trees.{Tree, var, int, atom, comp, nil, cons}
+use Rattle.unit_model.specs.Facts.{Facts, Entry, clause, body}
 use Rattle.unit_model.specs.Encoding.{encoding}
 use Rattle.unit_model.specs.Builtins.{builtins}
 use Rattle.unit_model.specs.Directives.{Text}
-use Rattle.unit_model.specs.Preparing.{State, start, step, Next, facts_of}
+use Rattle.unit_model.specs.Preparing.{start, step, Next, facts_of}
 
 abbrev unit_with : List (Entry Text) → Facts Text
 unit_with es = record { needs = []; sections = record { kind = body; byte = 0; of = codes "user"; entries = es } ∷ [] }

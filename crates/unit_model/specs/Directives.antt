@@ -1,5 +1,5 @@
 -- The forms of directives, and of clauses.
-use Rattle.std.specs.Prelude.{ℕ, ℤ, pos, negsuc, List, [], ◌∷◌, ◌++◌, length, codes, nat_eq, nat_le, Bool, true, false, ◌&&◌, ◌||◌, Option, Some, None, Result, Ok, Err, if◌then◌else◌, option_map, option_and_then, is_some}
+use Rattle.std.specs.Prelude.{ℕ, ℤ, pos, negsuc, List, [], ◌∷◌, ◌++◌, codes, nat_le, Bool, true, false, ◌||◌, Option, Some, None, Result, Ok, Err, if◌then◌else◌, option_map, option_and_then}
 use Rattle.pl_terms.specs.Trees.{Tree, var, int, atom, comp, Trees, nil, cons, count}
 use Rattle.pl_ops.specs.Tables.{same_text}
 use Rattle.unit_model.specs.Facts.{Indicator, SectionKind, interface, body}

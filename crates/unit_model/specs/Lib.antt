@@ -6,3 +6,6 @@ pub mod Preparing
 pub mod Prepared
 pub mod Validity
 pub mod Views
+pub mod Known
+pub mod Entries
+pub mod Saying

@@ -1,8 +1,8 @@
 -- Prepared texts, and the first fault of a text.
-use Rattle.std.specs.Prelude.{◌≡◌, ℕ, List, [], ◌∷◌, ◌++◌, length, Bool, Option, Some, None, Result, Ok, Err, ◌⊎◌}
+use Rattle.std.specs.Prelude.{◌≡◌, ℕ, List, [], ◌∷◌, ◌++◌, length, Bool, Some, None, Ok, Err, ◌⊎◌}
 use Rattle.pl_terms.specs.Trees.{Tree}
 use Rattle.pl_ops.specs.Tables.{Operators, operator}
-use Rattle.text_model.specs.Tokens.{Token, stop, Run, run, run_fault, cut_short, ended, next_run}
+use Rattle.text_model.specs.Tokens.{Token, stop, run, run_fault, cut_short, ended, next_run}
 use Rattle.text_model.specs.Grammar.{max_priority}
 use Rattle.text_model.specs.Reading.{numbered, ReadsTokens}
 use Rattle.unit_model.specs.Facts.{Facts}

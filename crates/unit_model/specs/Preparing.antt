@@ -1,7 +1,7 @@
 -- Preparing a text: what each of its terms adds to what is known and to the facts so far.
-use Rattle.std.specs.Prelude.{ℕ, ℤ, drop, List, [], ◌∷◌, ◌++◌, length, codes, map, nat_le, Bool, true, false, not, ◌&&◌, ◌||◌, Option, Some, None, Result, Ok, Err, if◌then◌else◌, option_map, is_some}
+use Rattle.std.specs.Prelude.{ℕ, ℤ, drop, List, [], ◌∷◌, ◌++◌, length, codes, map, nat_le, Bool, true, false, not, ◌&&◌, ◌||◌, Option, Some, None, Result, Ok, Err, if◌then◌else◌, is_some}
 use Rattle.std.specs.List.{list_any}
-use Rattle.pl_terms.specs.Trees.{Tree, var, int, atom, comp, Trees, nil, cons, count}
+use Rattle.pl_terms.specs.Trees.{Tree, comp, nil, cons}
 use Rattle.pl_terms.specs.Occurrence.{variables}
 use Rattle.pl_ops.specs.Tables.{Declaration, Operators, operator, same_text}
 use Rattle.pl_ops.specs.Standard.{standard}
@@ -9,7 +9,7 @@ use Rattle.pl_ops.specs.Refusals.{refusal, refusal_of_kind, declared}
 use Rattle.pl_ops.specs.declared.refusal.OpRefusal.{OpRefusal}
 use Rattle.pl_ops.specs.declared.refusal.OpRefusal.TheVariants.{NotPriority}
 use Rattle.unit_model.specs.Facts.{Indicator, OperatorOf, Need, What, exports, reexports_all, reexports, has_modes, declares, imports_all, imports, clause, Entry, SectionKind, interface, body, Section, Facts}
-use Rattle.unit_model.specs.Directives.{Text, Directive, opens, closes, exporting, reexporting, metapredicates, operators, importing, discontiguous, Form, directive_of, Parts, parts_of, converted, head_indicator, is_grammar_rule}
+use Rattle.unit_model.specs.Directives.{Text, Directive, opens, closes, exporting, reexporting, metapredicates, operators, importing, discontiguous, Form, directive_of, parts_of, converted, head_indicator, is_grammar_rule}
 use Rattle.unit_model.specs.Builtins.{is_builtin}
 
 -- a module whose interface is known, and the operators of its interface

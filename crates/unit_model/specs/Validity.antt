@@ -1,7 +1,7 @@
 -- Which facts are those of a unit.
-use Rattle.std.specs.Prelude.{◌≡◌, ℕ, ℤ, zero, suc, ◌+◌, ◌<◌, ◌≤◌, ◌^◌, pos, neg_ℤ, ◌≤ℤ◌, ◌<ℤ◌, List, [], ◌∷◌, ◌++◌, length, map, codes, nat_eq, nat_lt, nat_le, Bool, not, true, false, ◌&&◌, ◌||◌, Option, Some, None, if◌then◌else◌, IsUtf8, is_some, FitsSigned}
+use Rattle.std.specs.Prelude.{◌≡◌, ℕ, ◌+◌, ◌<◌, ◌≤◌, ◌^◌, List, [], ◌∷◌, ◌++◌, length, map, codes, nat_eq, nat_lt, Bool, not, true, false, ◌&&◌, ◌||◌, Option, Some, None, if◌then◌else◌, IsUtf8, is_some, FitsSigned}
 use Rattle.std.specs.Int.{w64}
-use Rattle.std.specs.List.{flat_map, AllByRecursion, list_any, list_all, filter_map}
+use Rattle.std.specs.List.{AllByRecursion, list_any, list_all, filter_map}
 use Rattle.pl_terms.specs.Trees.{Tree, var, int, atom, comp, Trees, nil, cons, count}
 use Rattle.pl_ops.specs.Tables.{Declaration, Class, prefix_class, infix_class, postfix_class, class_of, operator, same_text}
 use Rattle.pl_terms.specs.Occurrence.{occurrences, first_after, from_to}

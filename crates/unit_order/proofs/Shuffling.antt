@@ -14,7 +14,7 @@ use Rattle.unit_model.specs.declared.facts.Facts.{Facts}
 use Rattle.unit_format.specs.Units.{IsUnitOf}
 use Rattle.unit_format.proofs.Renaming.{names_of-by}
 use Rattle.unit_format.proofs.Places.{are_new, in_range}
-use Rattle.preparing_model.specs.Entries.{FactsBelow, IsSound, IsSoundNeed, IsSoundSection}
+use Rattle.unit_model.specs.Entries.{FactsBelow, IsSound, IsSoundNeed, IsSoundSection}
 use Rattle.unit_order.specs.Numbering.{noted, all_noted, number_in, down_from}
 use Rattle.unit_order.proofs.Order.{AreFresh, IsNoted, place_held, fresh, all_of_uses, uses_noted}
 use Rattle.unit_order.proofs.Texts.{text_again}

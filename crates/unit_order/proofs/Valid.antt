@@ -17,7 +17,7 @@ use Rattle.unit_format.specs.Uses.{facts_uses}
 use Rattle.unit_format.proofs.Renaming.{names_of-by}
 use Rattle.unit_format.proofs.Places.{table_is}
 use Rattle.unit_format.proofs.UseLaws.{names_of-view}
-use Rattle.preparing_model.specs.Entries.{FactsBelow, IsSound, IsSoundNeed, IsSoundSection}
+use Rattle.unit_model.specs.Entries.{FactsBelow, IsSound, IsSoundNeed, IsSoundSection}
 use Rattle.unit_order.specs.Numbering.{all_noted, number_in}
 use Rattle.unit_order.specs.Counts.{is_few, few_ops, few_entries, are_few}
 use Rattle.unit_order.proofs.Order.{AreFresh, places_in_order, fresh, all_of_uses, uses_noted, IsNoted}

@@ -5,7 +5,7 @@ ghost use Rattle.pl_atoms.specs.Names.{with_texts};
 ghost use Rattle.unit_model.specs.Encoding.{text_at, facts_in};
 ghost use Rattle.unit_model.specs.Views.{facts_view};
 ghost use Rattle.unit_format.specs.Views.{unit_facts};
-ghost use Rattle.preparing_model.specs.Entries.{FactsBelow, IsSound};
+ghost use Rattle.unit_model.specs.Entries.{FactsBelow, IsSound};
 
 use crate::counts::are_few;
 use crate::numbering::Numbering;

@@ -3,7 +3,7 @@ ghost use Rattle.std.specs.Prelude.{◌≡◌, [], length, IfOk};
 ghost use Rattle.unit_model.specs.Encoding.{facts_in};
 ghost use Rattle.unit_model.specs.Views.{facts_view};
 ghost use Rattle.unit_format.specs.Views.{unit_facts};
-ghost use Rattle.preparing_model.specs.Entries.{FactsBelow};
+ghost use Rattle.unit_model.specs.Entries.{FactsBelow};
 ghost use Rattle.unit_order.specs.Numbering.{all_noted, down_from};
 
 use crate::numbering::Numbering;

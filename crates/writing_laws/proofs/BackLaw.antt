@@ -5,7 +5,7 @@ use Rattle.std.specs.Str.Lossy.{utf8_valid_len}
 use Rattle.std.proofs.lemmas.Str.{utf8_valid_len-IsUtf8}
 use Rattle.std.proofs.lemmas.Bool.{le-ltb}
 use Rattle.pl_terms.specs.Trees.{Tree}
-use Rattle.text_model.specs.Tokens.{Token, Lexeme, stop, run, next_run, run_from, is_marked}
+use Rattle.text_model.specs.Tokens.{Token, run, next_run, run_from, is_marked}
 use Rattle.text_model.specs.Grammar.{max_priority, yield}
 use Rattle.text_model.specs.Reading.{numbered, items_of, at_operand}
 use Rattle.text_model.specs.Writing.{shown, Piece, spaced, spaced_after}

@@ -211,7 +211,7 @@ apart_of u v h =
     let a = is_alnum (last_of 256 (text_in u)) && is_alnum (head_of (text_in v)) in
     let b = is_symbol (last_of 256 (text_in u)) && is_symbol (head_of (text_in v)) in
     let c = is_letters (piece_in u) || is_letters (piece_in v) in
-    let d = is_sign_before (piece_in u) && nat_eq (head_of (text_in v)) 40 in
+    let d = is_sign_before (piece_in u) && same_text (text_in v) (codes "(") in
     let e = is_sign_before (piece_in u) && (same_text (text_in u) (codes "-") && is_digit (head_of (text_in v))) in
     let f = nat_eq (last_of 256 (text_in u)) 39 && nat_eq (head_of (text_in v)) 39 in
     record {

@@ -11,7 +11,7 @@ use Rattle.std.proofs.lemmas.List.Sums.{take_while-cons}
 use Rattle.std.proofs.Math.Seq.{drop-append_seam}
 use Rattle.std.proofs.lemmas.Fmt.{decimal_is_IsNumeral}
 use Rattle.std.proofs.lemmas.Str.Parse.{digit_from_value}
-use Rattle.text_model.specs.Tokens.{Lexeme, name, quoted, variable, integer, text_codes, punctuation, stop, Token, Found, found, fault, token_at, is_lower, is_upper, is_digit, is_alnum, is_symbol, is_punctuation, is_layout, is_one_of, is_end, ends_sentence, number_at, no_layout, layout, layout_step, line_len, block_step, block_len, head_of, starts, is_digit_of, digit_value, value_after, digits_of, integer_of, based, char_literal, Piece, piece, ends, bad_here, cut_off, line_end, escape, char_len, piece_at, Quoted, whole, bad_escape, unclosed, after_piece, body, quoted_item, item_of}
+use Rattle.text_model.specs.Tokens.{Lexeme, name, quoted, variable, integer, text_codes, punctuation, stop, Found, found, fault, token_at, is_lower, is_upper, is_digit, is_alnum, is_symbol, is_punctuation, is_layout, is_end, ends_sentence, number_at, no_layout, layout, layout_step, line_len, block_step, block_len, head_of, starts, is_digit_of, digit_value, value_after, integer_of, based, char_literal, quoted_item}
 use Rattle.text_model.specs.Tokens as tokens
 use Rattle.text_model.specs.Writing.{last_of}
 use Rattle.pl_ops.specs.Tables.{same_text}

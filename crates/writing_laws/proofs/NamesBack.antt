@@ -6,7 +6,7 @@ use Rattle.pl_terms.specs.Trees.{atom}
 use Rattle.pl_ops.specs.Tables.{same_text}
 use Rattle.text_model.specs.Tokens.{name, quoted, punctuation, stop, Token, is_lower, is_alnum, is_symbol, head_of, starts}
 use Rattle.text_model.specs.Grammar.{Item, operand, calls}
-use Rattle.text_model.specs.Reading.{is_punct, is_closer, is_call, Place, at_operand, at_operator, Move}
+use Rattle.text_model.specs.Reading.{is_closer, is_call, Place, at_operand, at_operator, Move}
 use Rattle.text_model.specs.Reading as reading
 use Rattle.text_model.specs.Writing.{Piece, plain_piece, name_text, is_parted, is_bare, last_of}
 use Rattle.text_model.specs.declared.Quote.TheVariants.{Quoted as quotes}

@@ -3,7 +3,7 @@ use Rattle.std.proofs.Common.{◌≡◌, ℕ, zero, suc, ◌+◌, ◌≤◌, ◌
 use Rattle.std.specs.Prelude.{IsUtf8}
 use lib.Utf8.{encode, encodes, scalar, scalars, next}
 use Rattle.std.specs.List.{list_all, flat_map}
-use Rattle.std.proofs.lemmas.Bool.{eqb-true, leb-true, le-leb, lt-ltb, le-ltb, lt-leb, ne_eqb, eq-eqb, ltb-true, ltb-false, leb-false}
+use Rattle.std.proofs.lemmas.Bool.{eqb-true, lt-ltb, le-ltb, lt-leb, ne_eqb, ltb-true, ltb-false}
 use Rattle.std.proofs.Math.Seq.{drop-append_seam, take-append_seam}
 use Rattle.text_model.specs.Tokens.{quoted, found, token_at, head_of, Piece, piece, ends, bad_here, cut_off, line_end, escape, plain, char_len, piece_at, Quoted, whole, bad_escape, unclosed, after_piece, body, item_of}
 use Rattle.text_model.specs.Writing.{escaped}

@@ -3,7 +3,7 @@ use Rattle.std.proofs.Common.{◌≡◌, ℕ, zero, suc, ◌+◌, ◌≤◌, ◌
 use Rattle.std.specs.Prelude.{codes}
 use Rattle.std.proofs.lemmas.Bool.{lt-ltb}
 use Rattle.std.proofs.lemmas.List.{drop-drop}
-use Rattle.text_model.specs.Tokens.{Lexeme, name, quoted, variable, integer, text_codes, punctuation, stop, Token, Found, found, fault, token_at, Skipped, skipped, over, Step, layout, no_layout, unfinished, layout_step, skip, Next, token, no_token, nothing, next_token, next_after, shifted, Run, run, run_fault, ended, run_from, after_token, is_minus, is_stop, Placed, placed, bad_at, none_left, put_at, placed_at}
+use Rattle.text_model.specs.Tokens.{Lexeme, stop, Token, found, token_at, skipped, over, Step, layout, no_layout, unfinished, layout_step, skip, token, nothing, next_token, next_after, shifted, Run, run, run_fault, ended, run_from, after_token, is_minus, is_stop, Placed, placed, bad_at, none_left, put_at}
 use Rattle.writing_laws.proofs.Bools.{and-false, if_true, if_false}
 use Rattle.writing_laws.proofs.Spells.{at_byte}
 

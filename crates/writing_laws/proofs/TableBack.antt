@@ -16,7 +16,7 @@ use Rattle.pl_ops.specs.declared.op.Kind.TheVariants.{Xfx as xfx, Xfy as xfy, Yf
 use Rattle.pl_ops.specs.declared.op.Op.{Op as Operator}
 use Rattle.text_model.specs.Tokens.{name, Token, is_alnum, is_digit, is_symbol, head_of}
 use Rattle.text_model.specs.Grammar.{Item, operand, before, between, after, calls, comma_op}
-use Rattle.text_model.specs.Reading.{is_punct, is_closer, is_call, Place, at_operand, at_operator, Move, is_special}
+use Rattle.text_model.specs.Reading.{is_closer, is_call, at_operand, at_operator, Move, is_special}
 use Rattle.text_model.specs.Reading as reading
 use Rattle.text_model.specs.Writing.{plain_piece, name_text, is_parted, is_bare, is_letters, last_of, signed, is_any_operator}
 use Rattle.text_model.specs.declared.Quote.TheVariants.{Quoted as quotes}
@@ -201,7 +201,7 @@ parted-bracket s = or_third (is_alnum (last_of 256 s) && false) (is_symbol (last
 pub parted-digit : (n : ℕ) → n < 2 ^ 63 → is_parted (piece_in (word sign_before (codes "-"))) (piece_in (number n)) ≡ true
 parted-digit n h =
     let f = head_of (decimal n) in
-    or_fifth (is_alnum 45 && is_alnum f) (is_symbol 45 && is_symbol f) (is_letters (piece_in (word sign_before (codes "-"))) || is_letters (piece_in (number n))) (nat_eq f 40) (is_digit f) (nat_eq 45 39 && nat_eq f 39) (decimal-head n h)
+    or_fifth (is_alnum 45 && is_alnum f) (is_symbol 45 && is_symbol f) (is_letters (piece_in (word sign_before (codes "-"))) || is_letters (piece_in (number n))) (same_text (decimal n) (codes "(")) (is_digit f) (nat_eq 45 39 && nat_eq f 39) (decimal-head n h)
 
 abbrev pub FirstIs : List Spell → Type 0
 FirstIs [] = Unit {0}

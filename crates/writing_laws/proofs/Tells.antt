@@ -2,11 +2,11 @@
 use Rattle.std.proofs.Common.{◌≡◌, ℕ, ◌≤◌, List, [], ◌∷◌, ◌++◌, map, Bool, true, false, ◌&&◌, Option, Some, None, refl, sym, ap, ◌∙◌, arith, subst, ◌⊎◌, inl, inr, append_assoc}
 use Rattle.std.specs.Prelude.{codes, IsUtf8}
 use Rattle.pl_terms.specs.Trees.{Tree, var, int, atom, comp, Trees, nil, cons, count}
-use Rattle.pl_ops.specs.Tables.{Declaration, operator, prefix_class, infix_class, postfix_class, same_text}
+use Rattle.pl_ops.specs.Tables.{operator, prefix_class, infix_class, postfix_class, same_text}
 use Rattle.pl_ops.specs.declared.op.Op.{Op as Operator}
 use Rattle.text_model.specs.Grammar.{square, Item, comma, bar, opens, closes, Parse, listed, listed_to, Arguments, one, more, yield, all_yield, list_to, empty_list, meaning, all_meaning, comma_op, priority, weight, IsGood, AreGood, max_priority, argument_priority, max_arity}
 use Rattle.text_model.specs.Reading.{at_operand, at_operator}
-use Rattle.text_model.specs.Writing.{Piece, plain_piece, name_text, int_text, signed, wrapped, is_any_operator, prefix_in, postfix_in, infix_in, weight_of, first_some, tree_weight, left_max, right_max, Shown, parted, as_argument, tail_of, shown_by}
+use Rattle.text_model.specs.Writing.{Piece, plain_piece, name_text, int_text, signed, wrapped, is_any_operator, prefix_in, postfix_in, infix_in, tree_weight, left_max, right_max, Shown, parted, as_argument, shown_by}
 use Rattle.text_model.specs.declared.Quote.TheVariants.{Quoted as quotes}
 use Rattle.text_model.specs.declared.Role.TheVariants.{SignBefore as sign_before, SignBetween as sign_between}
 use Rattle.text_model.specs.Writing as writing

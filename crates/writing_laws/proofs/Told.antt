@@ -10,7 +10,7 @@ use Rattle.pl_ops.specs.declared.op.Kind.TheVariants.{Xfx as xfx, Xfy as xfy, Yf
 use Rattle.pl_ops.specs.declared.op.Op.{Op as Operator}
 use Rattle.text_model.specs.Tokens.{name, integer, punctuation}
 use Rattle.text_model.specs.Grammar.{round, curly, square, Item, operand, between, comma, calls, opens, closes, Parse, leaf, grouped, braced, called, listed, listed_to, prefixed, joined, conjoined, postfixed, Arguments, one, more, yield, all_yield, meaning, all_meaning, left_y, right_y, comma_op, left_weight, priority, weight, FitsRight, FitsLeft, arity, IsGood, AreGood, max_priority, argument_priority, max_arity}
-use Rattle.text_model.specs.Reading.{is_punct, is_closer, is_call, Place, at_operand, at_operator, Move}
+use Rattle.text_model.specs.Reading.{is_punct, is_call, Place, at_operand, at_operator}
 use Rattle.text_model.specs.Reading as reading
 use Rattle.text_model.specs.Writing.{Piece, plain_piece, name_text, int_text, signed, wrapped, prefix_in, postfix_in, infix_in, weight_of, first_some, tree_weight, left_max, right_max}
 use Rattle.text_model.specs.declared.Quote.TheVariants.{Quoted as quotes}

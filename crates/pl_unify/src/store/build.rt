@@ -1,6 +1,6 @@
 //! Building terms from code.
 ghost use Rattle.std.specs.Prelude.{◌≡◌, ◌≢◌, ℕ, ◌+◌, ◌-◌, ◌<◌, ◌≤◌, ◌^◌, ◌++◌, max, map, take, drop, length, slice_index_or, IfOk, OnOk, OnErr, vec_len, vec_capacity};
-ghost use Rattle.run_model.specs.Substitution.{raise};
+ghost use Rattle.unifier_model.specs.Substitution.{raise};
 ghost use Rattle.pl_terms.specs.Trees.{var};
 ghost use Rattle.pl_terms.specs.Cells.{cells};
 ghost use Rattle.pl_unify.specs.Words.{WordIn};

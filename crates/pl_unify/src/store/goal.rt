@@ -1,15 +1,12 @@
 //! A goal's arguments against the code of a head, and terms of code at places of their own.
 ghost use Rattle.std.specs.Prelude.{◌≡◌, ◌+◌, ◌<◌, ◌≤◌, ◌^◌, max, length, None, MatchBool, IfOk};
-ghost use Rattle.run_model.specs.Unifier.{Solved};
+ghost use Rattle.unifier_model.specs.Unifier.{Solved};
 ghost use Rattle.pl_unify.specs.Words.{WordIn};
 ghost use Rattle.pl_unify.specs.State.{IsRef, Extends, Grows, tree_at, tree_of_word};
 ghost use Rattle.pl_unify.specs.Shape.{arity};
 ghost use Rattle.pl_unify.specs.Code.{code_tree_in};
 ghost use Rattle.pl_unify.specs.Match.{SolvedBy};
 ghost use Rattle.pl_unify.specs.Arguments.{arguments_of, argument_equations};
-
-#[cfg(test)]
-mod tests;
 
 use super::Store;
 use super::head::Span;

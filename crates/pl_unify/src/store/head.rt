@@ -1,6 +1,6 @@
 //! Matching a clause's head against its code.
 ghost use Rattle.std.specs.Prelude.{◌≡◌, ℕ, ◌+◌, ◌<◌, ◌≤◌, ◌^◌, ◌∷◌, ◌++◌, [], max, length, reverse, slice_index_or, None, MatchBool, IfOk, OnOk, OnErr};
-ghost use Rattle.run_model.specs.Unifier.{Solved};
+ghost use Rattle.unifier_model.specs.Unifier.{Solved};
 ghost use Rattle.pl_terms.specs.Trees.{var, int, atom};
 ghost use Rattle.pl_unify.specs.Words.{IsFree, WordIn};
 ghost use Rattle.pl_unify.specs.State.{Extends, Binds, tree_at, tree_of_var};

@@ -1,6 +1,6 @@
 //! Putting terms into a store.
 ghost use Rattle.std.specs.Prelude.{◌≡◌, ◌+◌, ◌<◌, ◌≤◌, ◌∷◌, ◌++◌, [], max, take, drop, length, reverse, IfOk, OnOk, OnErr, vec_len, vec_capacity};
-ghost use Rattle.run_model.specs.Substitution.{apply, raise};
+ghost use Rattle.unifier_model.specs.Substitution.{apply, raise};
 ghost use Rattle.pl_terms.specs.Cells.{cells};
 ghost use Rattle.pl_unify.specs.Words.{WordIn, word_tree};
 ghost use Rattle.pl_unify.specs.State.{IsStore, IsRef, Extends, Grows, tree_at, bound, base as bases_of};

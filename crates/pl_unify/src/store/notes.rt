@@ -1,6 +1,6 @@
 //! The occurs check, and notes of blocks without unbound variables.
 ghost use Rattle.std.specs.Prelude.{◌≡◌, ℕ, ◌+◌, ◌-◌, ◌<◌, ◌≤◌, ◌^◌, ◌++◌, length, reverse, slice_index_or, IfOk, IfSome, OnOk, IsTrue};
-ghost use Rattle.run_model.specs.Substitution.{occurs, occurs_any};
+ghost use Rattle.unifier_model.specs.Substitution.{occurs, occurs_any};
 ghost use Rattle.pl_unify.specs.Words.{IsFree, WordIn};
 ghost use Rattle.pl_unify.specs.State.{tree_of_word};
 ghost use Rattle.pl_unify.specs.Prefix.{trees};

@@ -1,7 +1,7 @@
 //! Unification (ISO/IEC 13211-1, 7.3).
 ghost use Rattle.std.specs.Prelude.{◌≡◌, ◌≢◌, ℕ, ◌+◌, ◌<◌, ◌^◌, ◌∷◌, ◌++◌, [], not, length, reverse, true, None, IfOk, OnOk, IsTrue, MatchBool};
-ghost use Rattle.run_model.specs.Substitution.{occurs};
-ghost use Rattle.run_model.specs.Unifier.{Solved};
+ghost use Rattle.unifier_model.specs.Substitution.{occurs};
+ghost use Rattle.unifier_model.specs.Unifier.{Solved};
 ghost use Rattle.pl_unify.specs.Words.{IsFree, WordIn};
 ghost use Rattle.pl_unify.specs.State.{IsRef, tree_of_word, bound};
 ghost use Rattle.pl_unify.specs.Steps.{pair_span, PairsBelow, IsStep, IsTurn, OnlyBinds, Unified, NotUnified, equations};

@@ -1,4 +1,4 @@
-use Rattle.std.proofs.Common.{◌≡◌, ◌+◌, ◌<◌, ℕ, List, [], ◌∷◌, ◌++◌, length, subst, sym, ap, ◌∙◌, slice_index_or, arith}
+use Rattle.std.proofs.Common.{◌+◌, List, length, subst, sym, ap, ◌∙◌, slice_index_or}
 use Rattle.std.proofs.lemmas.List.{length_push}
 use Rattle.pl_store.specs.Linked.{no_clause, clause_at}
 use Rattle.clause_code.specs.declared.codes.ClauseCode.{ClauseCode}

@@ -1,4 +1,4 @@
-use Rattle.search_theory.proofs.BudgetLaws.{found-longer}
+use Rattle.solver_model.proofs.BudgetLaws.{found-longer}
 use Rattle.goal_model.specs.Table.{prolog}
 use Rattle.goal_model.proofs.laws.budget_adds.Goals as goal
 

@@ -1,4 +1,4 @@
-use Rattle.search_theory.proofs.SearchLaws.{search-found}
+use Rattle.solver_model.proofs.SearchLaws.{search-found}
 use Rattle.goal_model.specs.Table.{prolog}
 use Rattle.goal_model.proofs.laws.value_is_bound_free.Goals as goal
 

@@ -1,9 +1,9 @@
 use Rattle.std.proofs.Common.{◌∙◌, ap, subst, refl, arith}
 use Rattle.pl_unify.specs.State.{tree_at}
-use Rattle.goal_records.specs.Denotation.{state_of}
-use Rattle.goal_records.specs.declared.path.Path.{Path}
-use Rattle.goal_terms.specs.Balls.{IsFault}
-use Rattle.goal_terms.specs.Calling.{IsCalled}
+use Rattle.goal_state.specs.Denotation.{state_of}
+use Rattle.goal_state.specs.declared.path.Path.{Path}
+use Rattle.goal_constructs.specs.Balls.{IsFault}
+use Rattle.goal_constructs.specs.Calling.{IsCalled}
 use Rattle.goal_moves.proofs.RetryLaws.{IfOk-then}
 use Rattle.goal_moves.proofs.RowMoves.{steady_well}
 use Rattle.goal_moves.proofs.Turning.{stack_of}
@@ -16,12 +16,12 @@ use Rattle.goal_moves.proofs.collecting.collecting.Goals as goal
 
 pub raise-requires-clause-well : goal.raise-requires-clause-well
 raise-requires-clause-well c =
-    let b = c.args.library.now in
+    let b = c.args.compiled.now in
     steady_well b c.args.path.now c.list_fault.new.path c.args.active (stack_of b c.args.path.now) c.args.active.node c.requires.ready (omega arith) (grown_steady b c.args.path.now c.list_fault.new.path c.args.active c.requires.ready c.in_ok-ball.ensures.grew)
 
 pub returns-in-Some-clause-moved : goal.returns-in-Some-clause-moved
 returns-in-Some-clause-moved c =
-    let b = c.args.library.now in
+    let b = c.args.compiled.now in
     let old : Path = c.args.path.now in
     let fault = subst (IsFault (state_of c.list_fault.new.path) (listed_at b old c.args.active c.args.template c.args.goal c.args.list) (tree_at (state_of old) c.args.list)) c.in-Some.is c.in_ok-ball.ensures.ball in
     IfOk-then c.raise.result c.raise.ensures.moved (λ r m.
@@ -30,7 +30,7 @@ returns-in-Some-clause-moved c =
 
 pub raise-requires-in-Ball-clause-well : goal.raise-requires-in-Ball-clause-well
 raise-requires-in-Ball-clause-well c =
-    let b = c.args.library.now in
+    let b = c.args.compiled.now in
     let old : Path = c.args.path.now in
     let p : Path = c.taken_for_goal.new.path in
     let g = grew_then old c.list_fault.new.path p c.in_ok-ball.ensures.grew c.in_ok-taken.ensures.grew in
@@ -38,7 +38,7 @@ raise-requires-in-Ball-clause-well c =
 
 pub returns-in_ok-enter_goals-in-Goal-clause-moved : goal.returns-in_ok-enter_goals-in-Goal-clause-moved
 returns-in_ok-enter_goals-in-Goal-clause-moved c =
-    let b = c.args.library.now in
+    let b = c.args.compiled.now in
     let a = c.args.active in
     let old : Path = c.args.path.now in
     let first : Path = c.list_fault.new.path in
@@ -52,7 +52,7 @@ returns-in_ok-enter_goals-in-Goal-clause-moved c =
 
 pub returns-in-Ball-clause-moved : goal.returns-in-Ball-clause-moved
 returns-in-Ball-clause-moved c =
-    let b = c.args.library.now in
+    let b = c.args.compiled.now in
     let a = c.args.active in
     let old : Path = c.args.path.now in
     let first : Path = c.list_fault.new.path in
@@ -68,7 +68,7 @@ returns-in-Ball-clause-moved c =
 
 pub returns-in-Some-clause-untried : goal.returns-in-Some-clause-untried
 returns-in-Some-clause-untried c =
-    let b = c.args.library.now in
+    let b = c.args.compiled.now in
     let old : Path = c.args.path.now in
     let first : Path = c.list_fault.new.path in
     let fault = subst (IsFault (state_of first) (listed_at b old c.args.active c.args.template c.args.goal c.args.list) (tree_at (state_of old) c.args.list)) c.in-Some.is c.in_ok-ball.ensures.ball in
@@ -78,7 +78,7 @@ returns-in-Some-clause-untried c =
 
 pub returns-in-Ball-clause-untried : goal.returns-in-Ball-clause-untried
 returns-in-Ball-clause-untried c =
-    let b = c.args.library.now in
+    let b = c.args.compiled.now in
     let a = c.args.active in
     let old : Path = c.args.path.now in
     let first : Path = c.list_fault.new.path in
@@ -92,7 +92,7 @@ returns-in-Ball-clause-untried c =
 
 pub returns-in_ok-enter_goals-in-Goal-clause-untried : goal.returns-in_ok-enter_goals-in-Goal-clause-untried
 returns-in_ok-enter_goals-in-Goal-clause-untried c =
-    let b = c.args.library.now in
+    let b = c.args.compiled.now in
     let a = c.args.active in
     let old : Path = c.args.path.now in
     let first : Path = c.list_fault.new.path in

@@ -1,7 +1,7 @@
 use Rattle.std.proofs.Common.{◌∙◌, ap, sym, subst}
 use Rattle.pl_terms.specs.Cells.{cells}
 use Rattle.pl_terms.specs.Occurrence.{canon}
-use Rattle.run_model.specs.Substitution.{apply, raise}
+use Rattle.unifier_model.specs.Substitution.{apply, raise}
 use Rattle.pl_unify.specs.Load.{NewInOrder, next_after}
 use Rattle.pl_unify.specs.State.{State, bound}
 use Rattle.pl_builtin_terms.proofs.Copies.{order-canon, next-canon}

@@ -1,15 +1,15 @@
 use Rattle.std.proofs.Common.{◌≡◌, ◌∙◌, ap}
 use Rattle.builtin_model.specs.Lists.{list_tree}
 use Rattle.goal_model.specs.Table.{copies}
-use Rattle.goal_records.specs.Denotation.{naming, state_of, answers_of, first}
-use Rattle.goal_records.specs.declared.path.Path.{Path}
+use Rattle.goal_state.specs.Denotation.{naming, state_of, answers_of, first}
+use Rattle.goal_state.specs.declared.path.Path.{Path}
 use Rattle.pl_unify.proofs.StoreLaws.{Extends-trans}
 use Rattle.goal_moves.proofs.GatherLaws.{gather_fails, gather_on, when_true, when_false}
 use Rattle.goal_moves.proofs.collecting.gather.Goals as goal
 
 pub returns-then-not-unified-clause-moved : goal.returns-then-not-unified-clause-moved
 returns-then-not-unified-clause-moved c =
-    let b = c.args.library.now in
+    let b = c.args.compiled.now in
     let p : Path = c.args.path.now in
     let q : Path = c.leave_search-answers.new.path in
     let e = c.leave_search-answers.ensures in
@@ -22,7 +22,7 @@ returns-then-not-unified-clause-moved c =
 
 pub returns-clause-moved : goal.returns-clause-moved
 returns-clause-moved c =
-    let b = c.args.library.now in
+    let b = c.args.compiled.now in
     let p : Path = c.args.path.now in
     let q : Path = c.leave_search-answers.new.path in
     let e = c.leave_search-answers.ensures in

@@ -18,7 +18,7 @@ loop-left-preserved c =
     record {
       grows = Grows-trans c.args.store.now.state c.loop-left.store.state c.compound.new.self.state inv.grows c.compound.ensures.grows;
       place = c.in_ok-list-2.ensures.place;
-      tree = listed_more c.args.library.now c.requires.library c.args.store.now.state c.loop-left.store.state c.compound.new.self.state c.args.places.now.items c.loop-left.left _ c.index.result.now c.loop-left.list c.in_ok-list-2.list _ (omega (arith, c.loop-left-test.true)) inv.few c.requires.places c.index.ensures inv.grows inv.tree
+      tree = listed_more c.args.compiled.now c.requires.compiled c.args.store.now.state c.loop-left.store.state c.compound.new.self.state c.args.places.now.items c.loop-left.left _ c.index.result.now c.loop-left.list c.in_ok-list-2.list _ (omega (arith, c.loop-left-test.true)) inv.few c.requires.places c.index.ensures inv.grows inv.tree
           (c.in_ok-list-2.ensures.tree ∙ ap (λ g. comp g.dot.0 (trees (map (tree_at c.loop-left.store.state) (c.index.result.now ∷ c.loop-left.list ∷ [])))) c.names-names.ensures);
       next = c.compound.ensures.next ∙ inv.next;
       few = omega (arith, inv.few);

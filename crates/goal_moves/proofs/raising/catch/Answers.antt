@@ -3,8 +3,8 @@ use Rattle.pl_unify.specs.State.{tree_at}
 use Rattle.pl_unify.specs.Steps.{Unified}
 use Rattle.pl_unify.proofs.StoreLaws.{Extends-trans}
 use Rattle.goal_model.specs.Table.{variable_count}
-use Rattle.goal_records.specs.Denotation.{naming, state_of}
-use Rattle.goal_records.specs.declared.path.Path.{Path}
+use Rattle.goal_state.specs.Denotation.{naming, state_of}
+use Rattle.goal_state.specs.declared.path.Path.{Path}
 use Rattle.goal_moves.proofs.GatherLaws.{when_true, when_false}
 use Rattle.goal_moves.proofs.RetryLaws.{IfOk-then}
 use Rattle.goal_moves.proofs.UnderLaws.{tree_under, path_under}
@@ -16,13 +16,13 @@ returns-then-not-unified c =
     let q : Path = c.go_back.new.self in
     let e = c.go_back.ensures in
     let made = c.in_ok-copy.ensures in
-    not_caught c.args.library.now c.args.path.now q c.args.choice c.args.name c.args.catcher c.args.recovery c.requires.kind c.requires.well e.state e.frames e.others c.args.ball.now c.copy_of.new.store c.in_ok-copy.copy made.grows made.tree
+    not_caught c.args.compiled.now c.args.path.now q c.args.choice c.args.name c.args.catcher c.args.recovery c.requires.kind c.requires.well e.state e.frames e.others c.args.ball.now c.copy_of.new.store c.in_ok-copy.copy made.grows made.tree
     c.unify.new.self (Extends-trans (state_of q) c.copy_of.new.store.state c.unify.new.self.state made.grows.extends c.unify.ensures.only.extends) c.next_var-after.ensures.store
     (when_false _ _ c.in_ok-unified.unified c.if-not-unified.true c.in_ok-unified.ensures.answer) c.args.at c.args.next c.requires.leads c.if-choice-next.false
 
 pub recover-requires-clause-base : goal.recover-requires-clause-base
 recover-requires-clause-base c =
-    let b = c.args.library.now in
+    let b = c.args.compiled.now in
     let p : Path = c.args.path.now in
     let q : Path = c.go_back.new.self in
     let e = c.go_back.ensures in
@@ -40,7 +40,7 @@ recover-requires-clause-base c =
 
 pub returns : goal.returns
 returns c =
-    let b = c.args.library.now in
+    let b = c.args.compiled.now in
     let p : Path = c.args.path.now in
     let q : Path = c.go_back.new.self in
     let e = c.go_back.ensures in
@@ -56,4 +56,4 @@ returns c =
     IfOk-then c.recover.result c.recover.ensures (λ r h.
     handed b p q c.args.choice c.args.name c.args.catcher c.args.recovery is c.requires.well e.state e.frames e.others c.args.ball.now c.copy_of.new.store c.in_ok-copy.copy made.grows made.tree
     un.unifier un.solved (tree_at c.unify.new.self.state c.args.recovery) replaced c.goal_of.new.store under
-    c.in_ok-called.called c.recover.new.path c.args.at r (c.in_ok-called.ensures.goal (naming b) c.requires.library.constructs) c.requires.active h)
+    c.in_ok-called.called c.recover.new.path c.args.at r (c.in_ok-called.ensures.goal (naming b) c.requires.compiled.constructs) c.requires.active h)

@@ -5,7 +5,7 @@ use Rattle.goal_moves.proofs.OutwardLaws.{Outward}
 use Rattle.goal_moves.proofs.raising.throw.Given as goal
 
 abbrev pub invariant-loop-choice : goal.invariant-loop-choice
-invariant-loop-choice l = Outward l.library l.initial.path l.path l.ball l.at (thrown l.library l.initial.path l.fn.term (exits_here l.library l.initial.path l.fn.rest))
+invariant-loop-choice l = Outward l.compiled l.initial.path l.path l.ball l.at (thrown l.compiled l.initial.path l.fn.term (exits_here l.compiled l.initial.path l.fn.rest))
 
 abbrev pub decreases-loop-choice : goal.decreases-loop-choice
 decreases-loop-choice l = vec_len l.path.choices

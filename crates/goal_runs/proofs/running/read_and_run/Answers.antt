@@ -5,7 +5,7 @@ use Rattle.plm_io.specs.Causes.{AppendsFront}
 use Rattle.pl_terms.specs.NameBounds.{NamesBelow}
 use Rattle.pl_store.specs.Facts.{IsLinked}
 use Rattle.pl_store.specs.Linked.{with_names}
-use Rattle.link_program.specs.Linking.{program_of_facts}
+use Rattle.program_model.specs.Linking.{program_of_facts}
 use Rattle.pl_machine.specs.declared.fault.RunFault.TheVariants.{WriteFault}
 use Rattle.goal_runs.specs.Runs.{Says}
 use Rattle.goal_runs.proofs.Joining.{nothing-put, on-err, handed-on}

@@ -1,10 +1,10 @@
-use Rattle.std.proofs.Common.{◌≡◌, length, codes, false, Some, ap, sym, ◌∙◌}
+use Rattle.std.proofs.Common.{length, codes, false, Some, ap, sym, ◌∙◌}
 use Rattle.pl_terms.specs.Trees.{atom, back}
 use Rattle.pl_terms.specs.Cells.{first}
 use Rattle.pl_terms.specs.Order.{text_of, texts_of}
 use Rattle.unit_model.specs.Directives.{converted}
-use Rattle.directive_forms.specs.Walks.{is_functor}
-use Rattle.directive_forms.proofs.NameBounds.{entered_below}
+use Rattle.term_walk.specs.Walks.{is_functor}
+use Rattle.term_walk.proofs.NameBounds.{entered_below}
 use Rattle.mod_body.specs.Clauses.{clause_by}
 use Rattle.mod_body.proofs.Making.{rule-is, fact-is, one-below, IsClause-same}
 use Rattle.mod_body.proofs.clause.clause.Goals as goal

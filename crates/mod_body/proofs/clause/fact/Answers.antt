@@ -1,4 +1,4 @@
-use Rattle.std.proofs.Common.{◌≡◌, [], ◌<◌, length, codes, false, ap, sym, ◌∙◌, subst, All}
+use Rattle.std.proofs.Common.{[], length, codes, false, ap, sym, ◌∙◌, subst, All}
 use Rattle.std.proofs.lemmas.Option.{get_or_from_slice_get}
 use Rattle.pl_atoms.proofs.Numbers.{IsFront-grown}
 use Rattle.pl_terms.specs.Trees.{atom}

@@ -1,4 +1,4 @@
-use Rattle.std.proofs.Common.{◌≡◌, ◌<◌, ◌-◌, length, codes, Some, None, Err, true, false, ap, sym, ◌∙◌, subst, All, refl, arith}
+use Rattle.std.proofs.Common.{◌≡◌, ◌-◌, length, codes, Some, None, Err, true, false, ap, sym, ◌∙◌, subst, All, refl, arith}
 use Rattle.std.proofs.lemmas.Result.{err_from_is_err_and}
 use Rattle.pl_atoms.proofs.Numbers.{IsFront-grown}
 use Rattle.pl_terms.specs.Trees.{cons, nil, count, back}
@@ -7,8 +7,8 @@ use Rattle.pl_terms.specs.Order.{text_of, texts_of}
 use Rattle.pl_terms.proofs.Whole.{IsTerm-cells}
 use Rattle.unit_model.specs.Builtins.{is_builtin}
 use Rattle.unit_model.specs.Directives.{converted}
-use Rattle.directive_forms.proofs.Walking.{count-back, one_tree}
-use Rattle.entry_forms.specs.declared.fault.DirFault.TheVariants.{Fault}
+use Rattle.term_walk.proofs.Walking.{count-back, one_tree}
+use Rattle.mod_directives.specs.declared.fault.DirFault.TheVariants.{Fault}
 use Rattle.mod_body.specs.Clauses.{clause_by}
 use Rattle.mod_body.proofs.Steps.{body-is, body-below}
 use Rattle.mod_body.proofs.Making.{made, built_in, no_body, IsClause-same, first-below, back-below}

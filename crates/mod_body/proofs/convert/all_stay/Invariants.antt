@@ -1,6 +1,6 @@
 use Rattle.std.proofs.Common.{◌≡◌}
 use Rattle.pl_terms.specs.Order.{text_of}
-use Rattle.directive_forms.specs.Walks.{size}
+use Rattle.term_walk.specs.Walks.{size}
 use Rattle.mod_body.specs.Converting.{all_stay}
 use Rattle.mod_body.proofs.convert.all_stay.Given as goal
 

@@ -2,7 +2,7 @@ use Rattle.std.proofs.Common.{◌≡◌, All, Some}
 use Rattle.pl_terms.specs.Order.{text_of}
 use Rattle.pl_terms.specs.Cells.{IsCell}
 use Rattle.unit_model.specs.Directives.{both}
-use Rattle.directive_forms.specs.Walks.{size}
+use Rattle.term_walk.specs.Walks.{size}
 use Rattle.mod_body.specs.Converting.{goal_cells}
 use Rattle.mod_body.proofs.convert.converted.Given as goal
 

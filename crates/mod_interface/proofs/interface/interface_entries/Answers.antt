@@ -1,9 +1,8 @@
-use Rattle.std.proofs.Common.{◌≡◌, ℕ, length, Err, ap, sym, ◌∙◌, true}
-use Rattle.pl_terms.specs.Trees.{cons, nil}
+use Rattle.std.proofs.Common.{◌≡◌, length, Err, ap, sym, ◌∙◌, true}
 use Rattle.pl_terms.specs.Cells.{first}
 use Rattle.pl_terms.specs.Order.{texts_of}
 use Rattle.unit_model.specs.Preparing.{a_query, a_clause, sort_of}
-use Rattle.entry_forms.proofs.Terms.{tells-says, tells-fault, said-by, directive-one, directive-below, directive-other, directive-said}
+use Rattle.mod_directives.proofs.Terms.{tells-says, tells-fault, said-by, directive-one, directive-below, directive-other, directive-said}
 use Rattle.mod_interface.proofs.interface.interface_entries.Goals as goal
 
 pub directive_entries-requires-clause-one : goal.directive_entries-requires-clause-one

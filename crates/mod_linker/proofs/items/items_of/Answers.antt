@@ -1,7 +1,7 @@
 use Rattle.std.proofs.Common.{◌++◌, List, length, sym, subst, ap, ◌∙◌, ◌<◌}
 use Rattle.std.specs.List.{AllByRecursion}
 use Rattle.unit_model.specs.declared.facts.Section.{Section}
-use Rattle.link_faults.proofs.Tables.{taken_at}
+use Rattle.mod_faults.proofs.Tables.{taken_at}
 use Rattle.mod_linker.specs.Items.{items_view, saids_of, IsSectionOf}
 use Rattle.mod_linker.proofs.Gathering.{unit_sections}
 use Rattle.mod_linker.proofs.Listing.{homes_below, unit-more}

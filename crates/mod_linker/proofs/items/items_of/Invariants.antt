@@ -1,7 +1,7 @@
 use Rattle.std.proofs.Common.{◌≡◌, map, take}
 use Rattle.unit_model.specs.Encoding.{text_at}
 use Rattle.unit_format.specs.Views.{unit_facts}
-use Rattle.link_program.specs.Saying.{said_by, said}
+use Rattle.program_model.specs.Saying.{said_by, said}
 use Rattle.mod_linker.specs.Items.{items_view, AreItems}
 use Rattle.mod_linker.proofs.items.items_of.Given as goal
 

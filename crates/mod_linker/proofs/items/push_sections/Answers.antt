@@ -1,4 +1,4 @@
-use Rattle.link_faults.proofs.Units.{AllBy-at}
+use Rattle.mod_faults.proofs.Units.{AllBy-at}
 use Rattle.mod_linker.specs.Items.{items_view, IsSectionOf}
 use Rattle.mod_linker.proofs.Gathering.{section-more}
 use Rattle.mod_linker.proofs.items.push_sections.Goals as goal

@@ -4,7 +4,7 @@ use Rattle.std.specs.List.{AllByRecursion}
 use Rattle.unit_model.specs.Encoding.{text_at}
 use Rattle.unit_format.specs.Views.{unit_facts}
 use Rattle.unit_format.specs.declared.unit.Unit.{Unit as ReadUnit}
-use Rattle.link_program.specs.Saying.{said_by, said}
+use Rattle.program_model.specs.Saying.{said_by, said}
 use Rattle.pl_store.specs.Linked.{Linked}
 use Rattle.mod_linker.specs.declared.items.Item.{Item}
 use Rattle.mod_linker.specs.Items.{items_view, AreItems}

@@ -1,7 +1,7 @@
 use Rattle.std.proofs.Common.{◌<◌, ℕ, List, [], ◌∷◌, length, map, take, get_or, ◌+◌}
 use Rattle.std.specs.List.{AllByRecursion}
 use Rattle.search_model.specs.declared.rows.VisibleRow.{VisibleRow}
-use Rattle.link_faults.proofs.Units.{get_or-itself}
+use Rattle.mod_faults.proofs.Units.{get_or-itself}
 use Rattle.pl_store.specs.Linked.{Linked}
 use Rattle.mod_linker.specs.Rowing.{Shown, ShowsMore}
 use Rattle.mod_linker.specs.Showing.{shown_by, IsShowable}

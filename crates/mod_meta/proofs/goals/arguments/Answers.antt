@@ -1,6 +1,6 @@
 use Rattle.std.proofs.Common.{◌≡◌, ◌∙◌, ◌<◌, ℕ, List, Bool, false, [], ◌∷◌, ◌++◌, ap, sym, subst, length, map, take, get_or, arith}
 use Rattle.std.proofs.lemmas.List.{map-append, length_push}
-use Rattle.pl_terms.specs.Trees.{Tree, Trees, count, atom}
+use Rattle.pl_terms.specs.Trees.{Tree, count, atom}
 use Rattle.pl_unify.specs.Prefix.{listed}
 use Rattle.pl_unify.specs.Shape.{arity, argument, nth_tree}
 use Rattle.pl_unify.specs.State.{State, Grows, IsRef, tree_at}

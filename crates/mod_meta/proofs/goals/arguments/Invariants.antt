@@ -1,8 +1,7 @@
 use Rattle.std.proofs.Common.{◌≡◌, ℕ, take, map, length}
-use Rattle.pl_terms.specs.Trees.{atom}
 use Rattle.pl_unify.specs.Prefix.{listed}
 use Rattle.pl_unify.specs.Making.{AreRefs}
-use Rattle.pl_unify.specs.State.{IsRef, Grows, tree_at}
+use Rattle.pl_unify.specs.State.{Grows, tree_at}
 use Rattle.builtin_model.specs.Naming.{Naming}
 use Rattle.goal_model.specs.Environments.{qualified}
 use Rattle.mod_meta.specs.Qualified.{IsColon, arguments_of}

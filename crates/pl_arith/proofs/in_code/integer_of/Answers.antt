@@ -2,7 +2,7 @@ use Rattle.std.proofs.Common.{◌≡◌, ◌∙◌, ◌+◌, sym, ap, rules}
 use Rattle.std.specs.Int.{w64}
 use Rattle.std.specs.Int.RustNames.{FitsSigned}
 use Rattle.std.proofs.lemmas.Int.{to_z-of_z}
-use Rattle.run_model.proofs.Replaced.{apply-int}
+use Rattle.unifier_model.proofs.Replaced.{apply-int}
 use Rattle.pl_unify.specs.State.{bound, tree_of_var, tree_of_word}
 use Rattle.pl_arith.proofs.in_code.integer_of.Goals as goal
 

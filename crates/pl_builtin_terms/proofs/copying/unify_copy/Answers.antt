@@ -2,7 +2,7 @@ use Rattle.pl_terms.specs.Cells.{cells}
 use Rattle.pl_terms.specs.Trees.{Tree}
 use Rattle.std.proofs.Common.{◌≡◌, ◌∙◌, ◌+◌, ap, sym, subst, length, ℕ}
 use Rattle.pl_terms.specs.Occurrence.{canon, variables}
-use Rattle.run_model.specs.Substitution.{apply, raise}
+use Rattle.unifier_model.specs.Substitution.{apply, raise}
 use Rattle.pl_unify.specs.Load.{NewInOrder, next_after}
 use Rattle.pl_unify.specs.State.{State, tree_at, bound}
 use Rattle.pl_unify.proofs.Loading.{IfOk-map}

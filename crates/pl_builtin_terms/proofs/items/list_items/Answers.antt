@@ -3,7 +3,7 @@ use Rattle.std.proofs.lemmas.List.{map-append}
 use Rattle.pl_atoms.specs.Names.{same_text}
 use Rattle.pl_terms.specs.Trees.{Tree}
 use Rattle.pl_terms.specs.Order.{text_of}
-use Rattle.run_model.specs.Substitution.{size}
+use Rattle.unifier_model.specs.Substitution.{size}
 use Rattle.pl_unify.specs.Shape.{argument}
 use Rattle.pl_unify.specs.State.{State, tree_at}
 use Rattle.pl_unify.specs.Making.{AreRefs}

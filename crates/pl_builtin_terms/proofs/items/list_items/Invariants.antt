@@ -1,5 +1,5 @@
 use Rattle.std.proofs.Common.{◌≡◌, map}
-use Rattle.run_model.specs.Substitution.{size}
+use Rattle.unifier_model.specs.Substitution.{size}
 use Rattle.pl_unify.specs.State.{IsRef, tree_at}
 use Rattle.pl_unify.specs.Making.{AreRefs}
 use Rattle.builtin_model.specs.Naming.{by_numbers}

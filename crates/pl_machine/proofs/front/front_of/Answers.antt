@@ -7,7 +7,7 @@ loop-front-init c = record { well = c.requires.well; placed = record { others = 
 
 pub returns-in-Some : goal.returns-in-Some
 returns-in-Some c =
-    let b = c.args.library.now in
+    let b = c.args.compiled.now in
     let p = c.args.path.now in
     let all : Placed b p c.look.new.path = placed_then b p c.loop-front.path c.look.new.path c.loop-front.invariant.placed (record { others = c.look.ensures.others; items = c.look.ensures.items }) in
     record { well = c.look.ensures.well; others = all.others; items = all.items; front = c.in-Some.ensures.front }
@@ -16,5 +16,5 @@ pub loop-front-preserved : goal.loop-front-preserved
 loop-front-preserved c =
     record {
       well = c.look.ensures.well;
-      placed = placed_then c.args.library.now c.args.path.now c.loop-front.path c.look.new.path c.loop-front.invariant.placed (record { others = c.look.ensures.others; items = c.look.ensures.items });
+      placed = placed_then c.args.compiled.now c.args.path.now c.loop-front.path c.look.new.path c.loop-front.invariant.placed (record { others = c.look.ensures.others; items = c.look.ensures.items });
     }

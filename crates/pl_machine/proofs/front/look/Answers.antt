@@ -3,11 +3,11 @@ use Rattle.pl_machine.proofs.FrontLaws.{Placed, nothing_front, lower_placed, pla
 use Rattle.pl_machine.proofs.front.look.Goals as goal
 
 pub returns-in_default-clause-front : goal.returns-in_default-clause-front
-returns-in_default-clause-front c = nothing_front c.args.library.now c.args.path.now (sym c.get.ensures.frame ∙ c.in_default.is)
+returns-in_default-clause-front c = nothing_front c.args.compiled.now c.args.path.now (sym c.get.ensures.frame ∙ c.in_default.is)
 
 pub returns-in_default-of_frame : goal.returns-in_default-of_frame
 returns-in_default-of_frame c =
-    let b = c.args.library.now in
+    let b = c.args.compiled.now in
     let p = c.args.path.now in
     let placed : Placed b p (record p { f = c.in-Some.frame.parent; pc = c.in-Some.frame.ppc }) = lower_placed b p c.in-Some.frame.parent c.in-Some.frame.ppc c.in_default-of_frame.ensures.none in
     record {

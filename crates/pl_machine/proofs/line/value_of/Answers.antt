@@ -1,6 +1,6 @@
 use Rattle.std.proofs.Common.{◌≡◌, IfOk, ◌∙◌, ap, subst, arith}
 use Rattle.pl_terms.specs.Trees.{var}
-use Rattle.run_model.specs.Substitution.{apply, raise}
+use Rattle.unifier_model.specs.Substitution.{apply, raise}
 use Rattle.pl_unify.specs.State.{bound, tree_at, tree_of_var}
 use Rattle.pl_machine.proofs.line.value_of.Goals as goal
 

@@ -1,4 +1,4 @@
-use Rattle.std.proofs.Common.{◌≡◌, Bool, false, Option, Some, None, sym, ap, ◌∙◌, if◌then◌else◌, ℤ, w64, SFits, rules, subst}
+use Rattle.std.proofs.Common.{false, Option, Some, None, sym, ap, ◌∙◌, if◌then◌else◌, ℤ, w64, SFits, rules}
 use Rattle.std.proofs.lemmas.Int.{to_z-of_z}
 use Rattle.text_model.specs.Reading.{negative}
 use Rattle.pl_terms.specs.declared.cell.Cell.TheVariants.{Int}

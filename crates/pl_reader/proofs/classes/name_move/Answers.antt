@@ -1,4 +1,3 @@
-use Rattle.std.proofs.Common.{sym, ◌∙◌}
 use Rattle.pl_ops.specs.Tables.{operator}
 use Rattle.pl_reader.proofs.TokenMoves.{name_plain}
 use Rattle.pl_reader.proofs.classes.name_move.Goals as goal

@@ -1,6 +1,5 @@
-use Rattle.std.proofs.Common.{List, ℕ, subst}
+use Rattle.std.proofs.Common.{subst}
 use Rattle.pl_ops.specs.Tables.{operator}
-use Rattle.text_model.specs.Tokens.{Lexeme}
 use Rattle.pl_reader.specs.Moves.{SymbolIs}
 use Rattle.pl_reader.specs.declared.classes.Symbol.{Symbol}
 use Rattle.pl_reader.proofs.TokenMoves.{at_word, at_number, at_mark}

@@ -1,5 +1,4 @@
-use Rattle.std.proofs.Common.{◌∷◌, ℕ, List, Some, None, subst}
-use Rattle.text_model.specs.Grammar.{Item}
+use Rattle.std.proofs.Common.{◌∷◌, Some, None, subst}
 use Rattle.pl_reader.specs.Machine.{run}
 use Rattle.pl_reader.specs.Standing.{Steps}
 use Rattle.pl_reader.proofs.Parsing.{steps_as}

@@ -1,10 +1,8 @@
-use Rattle.std.proofs.Common.{◌≡◌, ℕ, List, Bool, Option, Some, refl, sym, subst}
-use Rattle.text_model.specs.Grammar.{Item}
+use Rattle.std.proofs.Common.{◌≡◌, ℕ, List, Bool, Option, Some, refl, sym, subst, ◌∷◌}
+use Rattle.text_model.specs.Grammar.{Item, Parse}
 use Rattle.pl_reader.specs.Standing.{ItemIs, Steps, EndsTerm, ClosesBracket, after_bracket, bracket_of}
 use Rattle.pl_reader.specs.declared.machine.ParseItem.{ParseItem}
 use Rattle.pl_reader.specs.declared.machine.Stepped.{Stepped}
-use Rattle.text_model.specs.Grammar.{Parse}
-use Rattle.std.proofs.Common.{◌∷◌}
 use Rattle.pl_reader.specs.Machine.{run, Frame, Context as Opened}
 use Rattle.pl_reader.specs.declared.machine.Entry.{Entry}
 use Rattle.pl_reader.specs.declared.machine.Context.{Context}

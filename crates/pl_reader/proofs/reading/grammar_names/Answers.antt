@@ -1,4 +1,3 @@
-use Rattle.std.proofs.Common.{sym, ◌∙◌}
 use Rattle.std.specs.Prelude.{codes}
 use Rattle.pl_reader.proofs.Tables.{front_get, front_grown, front_then}
 use Rattle.pl_reader.proofs.reading.grammar_names.Goals as goal

@@ -1,4 +1,4 @@
-use Rattle.std.proofs.Common.{◌≡◌, List, subst, sym, ◌∙◌}
+use Rattle.std.proofs.Common.{List, subst, sym, ◌∙◌}
 use Rattle.pl_ops.specs.Tables.{operator}
 use Rattle.pl_tokens.specs.declared.token.Token.{Token}
 use Rattle.pl_terms.specs.Order.{texts_of}

@@ -1,6 +1,5 @@
-use Rattle.std.proofs.Common.{◌≡◌, ◌-◌, ◌≤◌, ℕ, List, Option, Bool, true, false, length, subst, sym, ap, ◌∙◌, arith}
+use Rattle.std.proofs.Common.{◌-◌, List, Bool, true, false, subst, sym, arith}
 use Rattle.pl_ops.specs.Tables.{operator}
-use Rattle.text_model.specs.Grammar.{Parse, Item}
 use Rattle.pl_reader.specs.Standing.{Steps, Finishes}
 use Rattle.pl_reader.proofs.RunSteps.{Going, At, at_place, start, advance, none_going, wants_operand, ends_none, ends_found, all_known, all_met}
 use Rattle.pl_reader.specs.declared.machine.Context.{Context}

@@ -1,6 +1,4 @@
-use Rattle.std.proofs.Common.{None, Some}
 use Rattle.pl_ops.specs.Tables.{operator}
-use Rattle.text_model.specs.Reading.{peek, peek_second}
 use Rattle.pl_reader.proofs.TokenSteps.{refused, moved}
 use Rattle.pl_reader.proofs.tokens_taken.take_symbol.Goals as goal
 

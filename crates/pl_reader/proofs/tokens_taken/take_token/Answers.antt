@@ -1,9 +1,9 @@
-use Rattle.std.proofs.Common.{◌≡◌, ◌∷◌, List, ℕ, Option, subst, sym, ap, ◌∙◌}
+use Rattle.std.proofs.Common.{◌≡◌, ◌∷◌, List, ℕ, subst, sym, ap, ◌∙◌}
 use Rattle.pl_ops.specs.Tables.{operator}
 use Rattle.text_model.specs.Tokens.{Token as ModelToken}
-use Rattle.text_model.specs.Reading.{relabelled, peek, peek_second}
+use Rattle.text_model.specs.Reading.{relabelled}
 use Rattle.pl_tokens.specs.Views.{token_view, kind_view}
-use Rattle.pl_reader.specs.Moves.{SymbolIs, TokenIs}
+use Rattle.pl_reader.specs.Moves.{SymbolIs}
 use Rattle.pl_reader.specs.Numbering.{Met, met, met_after, lexeme_at, numbered_from}
 use Rattle.pl_reader.specs.Reads.{Goes}
 use Rattle.pl_reader.proofs.TokenSteps.{numbered-step}

@@ -1,6 +1,5 @@
-use Rattle.std.proofs.Common.{◌≡◌, ◌++◌, ◌∷◌, [], ℕ, List, length, Bool, ap, sym, ◌∙◌, subst, Ok, Err, Some, arith, true}
-use Rattle.text_model.specs.Tokens.{Placed, placed, placed_at, is_stop, is_minus, run, run_from, none_left, ended, Token}
-use Rattle.std.proofs.Common.{Option}
+use Rattle.std.proofs.Common.{◌≡◌, ◌++◌, ◌∷◌, [], ℕ, List, length, Bool, ap, sym, ◌∙◌, subst, Ok, Err, Some, arith, true, Option}
+use Rattle.text_model.specs.Tokens.{placed, placed_at, is_stop, is_minus, run, run_from, none_left, ended, Token}
 use Rattle.pl_tokens.specs.declared.token_reader.PlacedToken.{PlacedToken}
 use Rattle.pl_tokens.specs.declared.token.Token.{Token as CodeToken}
 use Rattle.pl_tokens.specs.Views.{kind_view, token_view, tokens_view}

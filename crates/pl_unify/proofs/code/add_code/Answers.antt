@@ -1,8 +1,7 @@
 use Rattle.std.proofs.Common.{◌≡◌, ◌≤◌, ◌∙◌, ◌++◌, ◌∷◌, [], ap, arith, reverse, sym, take, drop, subst, rules, length}
 use Rattle.std.proofs.lemmas.List.{length-reverse}
 use Rattle.pl_terms.specs.declared.cell.Cell.TheVariants as C
-use Rattle.pl_unify.specs.Prefix.{Has}
-use Rattle.pl_unify.specs.Prefix.{with_cell}
+use Rattle.pl_unify.specs.Prefix.{Has, with_cell}
 use Rattle.pl_unify.specs.declared.code.CodeWord.TheVariants.{Comp}
 use Rattle.pl_unify.specs.Code.{piece_words, start_of}
 use Rattle.pl_unify.specs.Coding.{Coded, piece_trees}

@@ -13,8 +13,8 @@ returns-clause-bytes c =
     let quoted = quoted_text c.args.text.now in
     c.in_ok-push_quoted.ensures.ok
     ∙ ap (λ l. l ++ quoted) c.in_ok-push_gap.ensures.ok
-    ∙ append_assoc c.args.out.now (gap_by c.args.edge 39 false) quoted
-    ∙ ap (λ b. c.args.out.now ++ (gap_by c.args.edge 39 b ++ quoted)) (sym (quoted-letters c.args.role c.args.text.now))
+    ∙ append_assoc c.args.out.now (gap_by c.args.edge 39 false false) quoted
+    ∙ ap (λ b. c.args.out.now ++ (gap_by c.args.edge 39 false b ++ quoted)) (sym (quoted-letters c.args.role c.args.text.now))
 
 pub returns-in_err-push_quoted-clause-err : goal.returns-in_err-push_quoted-clause-err
 returns-in_err-push_quoted-clause-err c = keeps _ (begins-after _ _ _ _ c.in_ok-push_gap.ensures.ok c.in_err-push_quoted.ensures.err)

@@ -1,6 +1,6 @@
 use Rattle.std.proofs.Common.{◌≡◌, Option, Some, None, sym, ap, ◌∙◌, subst, length, IfSome}
 use Rattle.pl_atoms.specs.declared.names.NameId.{NameId}
-use Rattle.directive_forms.specs.Walks.{first_cell, entered}
+use Rattle.term_walk.specs.Walks.{first_cell, entered}
 use Rattle.prep_texts.specs.Sections.{short_name, atom_name, source_word, SourceBelow}
 use Rattle.prep_texts.proofs.BoundLaws.{module-bound, source-bound}
 use Rattle.prep_texts.proofs.DirectiveLaws.{by_source, source-not, source-is}

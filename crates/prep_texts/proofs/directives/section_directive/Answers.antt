@@ -1,6 +1,6 @@
 use Rattle.std.proofs.Common.{◌≡◌, Option, Some, sym, ap, ◌∙◌, subst, length, IfSome}
 use Rattle.pl_atoms.specs.declared.names.NameId.{NameId}
-use Rattle.directive_forms.specs.Walks.{first_cell, entered}
+use Rattle.term_walk.specs.Walks.{first_cell, entered}
 use Rattle.prep_texts.specs.Sections.{atom_name, section_word, DirectiveBelow}
 use Rattle.prep_texts.proofs.BoundLaws.{module-bound, section-bound}
 use Rattle.prep_texts.proofs.DirectiveLaws.{by_word, section-not, section-is}

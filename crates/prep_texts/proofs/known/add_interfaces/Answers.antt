@@ -1,7 +1,7 @@
 use Rattle.std.proofs.Common.{◌+◌, ◌++◌, ◌∷◌, [], sym, ap, ◌∙◌, subst}
 use Rattle.unit_model.specs.Encoding.{text_at}
 use Rattle.unit_model.specs.Preparing.{Interface, operators_of}
-use Rattle.preparing_model.specs.Entries.{entries_in}
+use Rattle.unit_model.specs.Entries.{entries_in}
 use Rattle.prep_texts.specs.Interfaces.{interfaces_view}
 use Rattle.prep_texts.proofs.GivenLaws.{Giving, gives-one, gives-none}
 use Rattle.prep_texts.proofs.known.add_interfaces.Goals as goal

@@ -1,6 +1,6 @@
 use Rattle.std.proofs.Common.{◌≡◌, take}
 use Rattle.unit_model.specs.Preparing.{operators_of}
-use Rattle.preparing_model.specs.Entries.{entries_in}
+use Rattle.unit_model.specs.Entries.{entries_in}
 use Rattle.prep_texts.specs.Interfaces.{operators_view}
 use Rattle.prep_texts.proofs.making.interface_made.Given as goal
 

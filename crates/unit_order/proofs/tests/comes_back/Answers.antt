@@ -1,5 +1,5 @@
 use Rattle.std.proofs.Common.{sym, subst}
-use Rattle.preparing_model.specs.Entries.{IsSound}
+use Rattle.unit_model.specs.Entries.{IsSound}
 use Rattle.unit_order.proofs.Shuffling.{is_sound}
 use Rattle.unit_order.proofs.tests.comes_back.Goals as goal
 

@@ -2,7 +2,7 @@ use Rattle.std.proofs.Common.{◌∷◌, [], ℕ, ap, sym, subst, ◌∙◌, sli
 use Rattle.pl_terms.specs.Trees.{Tree, renamed}
 use Rattle.unit_model.specs.Facts.{clause, What as WhatOf}
 use Rattle.unit_model.specs.Views.{ind_view}
-use Rattle.link_program.specs.Saying.{said_of}
+use Rattle.program_model.specs.Saying.{said_of}
 use Rattle.mod_linker.specs.Entering.{Takes}
 use Rattle.mod_linker.proofs.Taking.{uses, view, takes-clause, clause-taken}
 use Rattle.mod_linker.proofs.entering.Linker.enter_clause.Goals as goal

@@ -20,7 +20,7 @@ returns-then-is_spent c =
       gives = gives_over m m t t E.Spent (gives_ended m m t t E.Spent (
         kept_none m t,
         λ r h.
-            ended_spent m m.library m.path r m.left c.args.stand c.requires.machine.library c.is_spent.ensures.linked c.requires.waits.1.0 refl (c.is_spent.ensures.spent c.if-is_spent.true) (remains_waiting m c.args.stand r c.requires.waits h),
+            ended_spent m m.compiled m.path r m.left c.args.stand c.requires.machine.compiled c.is_spent.ensures.linked c.requires.waits.1.0 refl (c.is_spent.ensures.spent c.if-is_spent.true) (remains_waiting m c.args.stand r c.requires.waits h),
       ));
       step = stepped_none m (record m { over = true }) spent refl;
       peak = peaked_none m (record m { over = true }) spent refl;

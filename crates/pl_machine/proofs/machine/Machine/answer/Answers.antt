@@ -4,7 +4,7 @@ use Rattle.pl_terms.specs.Trees.{Tree}
 use Rattle.pl_terms.specs.Order.{texts_of}
 use Rattle.pl_terms.specs.declared.read_term.VarName.{VarName}
 use Rattle.pl_ops.specs.Tables.{operator}
-use Rattle.goal_records.specs.Denotation.{state_of, template_of}
+use Rattle.goal_state.specs.Denotation.{state_of, template_of}
 use Rattle.goal_moves.specs.declared.going.Going.TheVariants.{Fails}
 use Rattle.goal_moves.specs.Moves.{answering}
 use Rattle.pl_machine.specs.declared.machine.Machine.{Machine}
@@ -20,7 +20,7 @@ returns-in-Some-clause-further c left =
     let m : Machine = with_left c.args.self.now left in (
       record { text = refl; same = (refl, refl, refl); answers = refl },
       λ r so. remains_of (record m { path = c.keep_answer.new.path }) Fails r c.requires.going
-          (moved_remains m.library m.path c.keep_answer.new.path (answering m.library m.path) left Fails r c.in_ok-keep_answer.ensures.0 so),
+          (moved_remains m.compiled m.path c.keep_answer.new.path (answering m.compiled m.path) left Fails r c.in_ok-keep_answer.ensures.0 so),
     )
 
 pub returns-in-Some-clause-did : goal.returns-in-Some-clause-did
@@ -36,7 +36,7 @@ returns-clause-further c left =
     let m : Machine = with_left c.args.self.now left in
     let new : Machine = record m { path = record m.path { store = c.line_of.new.store }; answers = c.saturating_add-self.result } in
     let all : All (λ (v : VarName). v.number < m.path.width) c.as_slice.result.now = subst (λ (vs : List VarName). All (λ (v : VarName). v.number < m.path.width) vs) (sym c.as_slice.ensures.value) c.requires.machine.variables in
-    let ts : List (Tree (List ℕ)) = map (texts_of m.library.names) (template_of (state_of m.path) m.path.width None) in
+    let ts : List (Tree (List ℕ)) = map (texts_of m.compiled.names) (template_of (state_of m.path) m.path.width None) in
     let line : c.in_ok-line.line ≡ answer_shown (operator m.table) c.as_slice.result.now ts = c.in_ok-line.ensures.line m.path.width all in (
       (refl, refl, refl),
       λ r so.

@@ -7,7 +7,7 @@ use Rattle.pl_machine.proofs.machine.Machine.back.Goals as goal
 pub go_back-requires : goal.go_back-requires
 go_back-requires c =
     let m : Machine = c.args.self.now in
-    (popped_well m.library m.path c.pop.new.self c.in-Some.choice m.path.depth c.in-Some.ensures.some c.pop.ensures.others c.requires.well).records.0.mark
+    (popped_well m.compiled m.path c.pop.new.self c.in-Some.choice m.path.depth c.in-Some.ensures.some c.pop.ensures.others c.requires.well).records.0.mark
 
 pub returns-then-choices-eq0-clause-none : goal.returns-then-choices-eq0-clause-none
 returns-then-choices-eq0-clause-none c e =
@@ -16,7 +16,7 @@ returns-then-choices-eq0-clause-none c e =
 pub overflow_add-self : goal.overflow_add-self
 overflow_add-self c =
     let m : Machine = c.args.self.now in
-    let low = (popped_well m.library m.path c.pop.new.self c.in-Some.choice m.path.depth c.in-Some.ensures.some c.pop.ensures.others c.requires.well).records.0.shallow in
+    let low = (popped_well m.compiled m.path c.pop.new.self c.in-Some.choice m.path.depth c.in-Some.ensures.some c.pop.ensures.others c.requires.well).records.0.shallow in
     omega (arith, low)
 
 pub returns-clause-back : goal.returns-clause-back
@@ -34,5 +34,5 @@ returns-clause-back c e =
     } in (
       c.in-Some.choice,
       went_back m c.pop.new.self c.go_back.new.self c.leave.new.self c.in-Some.choice steps,
-      back_inside m c.pop.new.self c.go_back.new.self c.leave.new.self c.in-Some.choice steps m.path.depth c.requires.library c.requires.well,
+      back_inside m c.pop.new.self c.go_back.new.self c.leave.new.self c.in-Some.choice steps m.path.depth c.requires.compiled c.requires.well,
     )

@@ -1,5 +1,5 @@
 use Rattle.std.proofs.Common.{ap}
-use Rattle.goal_records.specs.declared.path.Path.{Path}
+use Rattle.goal_state.specs.declared.path.Path.{Path}
 use Rattle.pl_machine.specs.declared.machine.Machine.{Machine}
 use Rattle.pl_machine.proofs.RoomLaws.{CutOff, cut_answers, cut_others, cut_machine, cut_inside}
 use Rattle.pl_machine.proofs.machine.Machine.cut.Goals as goal

@@ -1,6 +1,6 @@
 use Rattle.std.proofs.Common.{ℕ, List, refl, subst}
-use Rattle.search_theory.specs.Search.{Over, Failed}
-use Rattle.goal_records.specs.Denotation.{search_at}
+use Rattle.solver_model.specs.Search.{Over, Failed}
+use Rattle.goal_state.specs.Denotation.{search_at}
 use Rattle.goal_moves.specs.declared.going.Going.TheVariants.{Fails}
 use Rattle.goal_moves.specs.Moves.{Moved}
 use Rattle.prep_report.specs.declared.end.End2.TheVariants.{Exhausted}
@@ -16,13 +16,13 @@ use Rattle.pl_machine.proofs.machine.Machine.go_back.Goals as goal
 pub returns-in-Fails : goal.returns-in-Fails
 returns-in-Fails c =
     let m : Machine = c.args.self.now in
-    let x = search_at m.library m.path (Over Failed) in
-    let moved : Moved m.library m.path c.back.new.path x Fails = subst (Moved m.library m.path c.back.new.path x) c.in-Fails.is c.in_ok-going.ensures.moved in
+    let x = search_at m.compiled m.path (Over Failed) in
+    let moved : Moved m.compiled m.path c.back.new.path x Fails = subst (Moved m.compiled m.path c.back.new.path x) c.in-Fails.is c.in_ok-going.ensures.moved in
     let new : Machine = record m { path = c.back.new.path } in
     let did : (left : ℕ) (text : List ℕ) → Did (Failing (with_left m left)) (with_left m left) (with_left new left) text text (P.Ended Exhausted) = λ left text. (
       record { text = refl; same = (refl, refl, refl); answers = refl },
-      λ r so. ended_failed (with_left new left) m.library c.back.new.path r left refl (c.in_ok-going.ensures.ended c.in-Fails.is)
-          (moved_remains m.library m.path c.back.new.path x left Fails r moved so),
+      λ r so. ended_failed (with_left new left) m.compiled c.back.new.path r left refl (c.in_ok-going.ensures.ended c.in-Fails.is)
+          (moved_remains m.compiled m.path c.back.new.path x left Fails r moved so),
     ) in
     record {
       machine = moved_machine m c.back.new.path m.going c.requires moved.well moved.low moved.width;
@@ -40,7 +40,7 @@ returns-in_default c =
     let new : Machine = record m { path = c.back.new.path; going = c.in_ok-going.going } in
     let did : (left : ℕ) (text : List ℕ) → Did (Failing (with_left m left)) (with_left m left) (with_left new left) text text P.Quiet = λ left text. (
       record { text = refl; same = (refl, refl, refl); answers = refl },
-      λ r so. moved_remains m.library m.path c.back.new.path (search_at m.library m.path (Over Failed)) left c.in_ok-going.going r moved so,
+      λ r so. moved_remains m.compiled m.path c.back.new.path (search_at m.compiled m.path (Over Failed)) left c.in_ok-going.going r moved so,
     ) in
     record {
       machine = moved_machine m c.back.new.path c.in_ok-going.going c.requires moved.well moved.low moved.width;

@@ -1,5 +1,5 @@
 use Rattle.std.proofs.Common.{◌≡◌, ℕ, refl, sym, subst}
-use Rattle.goal_records.specs.declared.path.Path.{Path}
+use Rattle.goal_state.specs.declared.path.Path.{Path}
 use Rattle.goal_moves.specs.declared.going.Going.TheVariants.{On, Fails}
 use Rattle.goal_moves.specs.Walking.{Walked}
 use Rattle.goal_moves.proofs.Committing.{IfOk-then}
@@ -23,8 +23,8 @@ pub returns-in-Goal : goal.returns-in-Goal
 returns-in-Goal c =
     let m : Machine = c.args.self.now in
     let q : Path = c.front_of.new.path in
-    let placed : Placed m.library m.path q = record { others = c.front_of.ensures.others; items = c.front_of.ensures.items } in
-    let walked : Walked m.library m.path q = placed_walked m.library m.path q c.requires.machine.well placed in
+    let placed : Placed m.compiled m.path q = record { others = c.front_of.ensures.others; items = c.front_of.ensures.items } in
+    let walked : Walked m.compiled m.path q = placed_walked m.compiled m.path q c.requires.machine.well placed in
     let new : Machine = record m { path = q; going = On } in
     let did : (left : ℕ) → Did (Searching (with_left m left)) (with_left m left) (with_left new left) c.args.text.now c.args.text.now (P.Waits c.in-Goal.stand) = λ left. (
       record { text = refl; same = (refl, refl, refl); answers = refl },
@@ -42,7 +42,7 @@ returns-in-Goal c =
 pub returns-in-Cut : goal.returns-in-Cut
 returns-in-Cut c =
     let m : Machine = c.args.self.now in
-    let b = m.library in
+    let b = m.compiled in
     let q : Path = c.front_of.new.path in
     let placed : Placed b m.path q = record { others = c.front_of.ensures.others; items = c.front_of.ensures.items } in
     let first : Walked b m.path q = placed_walked b m.path q c.requires.machine.well placed in
@@ -72,7 +72,7 @@ returns-in-Cut c =
 pub returns-in-Exit : goal.returns-in-Exit
 returns-in-Exit c =
     let m : Machine = c.args.self.now in
-    let b = m.library in
+    let b = m.compiled in
     let q : Path = c.front_of.new.path in
     let placed : Placed b m.path q = record { others = c.front_of.ensures.others; items = c.front_of.ensures.items } in
     let first : Walked b m.path q = placed_walked b m.path q c.requires.machine.well placed in
@@ -96,7 +96,7 @@ returns-in-Exit c =
 pub returns-in-Fail : goal.returns-in-Fail
 returns-in-Fail c =
     let m : Machine = c.args.self.now in
-    let b = m.library in
+    let b = m.compiled in
     let q : Path = c.front_of.new.path in
     let placed : Placed b m.path q = record { others = c.front_of.ensures.others; items = c.front_of.ensures.items } in
     let walked : Walked b m.path q = placed_walked b m.path q c.requires.machine.well placed in
@@ -117,7 +117,7 @@ returns-in-Fail c =
 pub returns-in-Nothing-clause-did : goal.returns-in-Nothing-clause-did
 returns-in-Nothing-clause-did c =
     let m : Machine = c.args.self.now in
-    let b = m.library in
+    let b = m.compiled in
     let q : Path = c.front_of.new.path in
     let mid : Machine = record m { path = q } in
     let placed : Placed b m.path q = record { others = c.front_of.ensures.others; items = c.front_of.ensures.items } in
@@ -131,7 +131,7 @@ returns-in-Nothing-clause-did c =
 pub returns-in-Nothing-clause-further : goal.returns-in-Nothing-clause-further
 returns-in-Nothing-clause-further c =
     let m : Machine = c.args.self.now in
-    let b = m.library in
+    let b = m.compiled in
     let q : Path = c.front_of.new.path in
     let placed : Placed b m.path q = record { others = c.front_of.ensures.others; items = c.front_of.ensures.items } in
     let walked : Walked b m.path q = placed_walked b m.path q c.requires.machine.well placed in

@@ -50,7 +50,7 @@ returns-then-is_spent c =
       gives = gives_over m n t u E.Spent (gives_ended m n t u E.Spent (
         d.0,
         λ r h.
-            ended_spent n n.library n.path r n.left c.in-Waits.field-0 c.in_ok-settle.ensures.machine.library c.is_spent.ensures.linked first.1.0 refl (c.is_spent.ensures.spent c.if-is_spent.true) (d.1 r h),
+            ended_spent n n.compiled n.path r n.left c.in-Waits.field-0 c.in_ok-settle.ensures.machine.compiled c.is_spent.ensures.linked first.1.0 refl (c.is_spent.ensures.spent c.if-is_spent.true) (d.1 r h),
       ));
       others = over_others m n c.in_ok-settle.ensures.others;
       stops = refl;

@@ -1,5 +1,5 @@
 use Rattle.std.proofs.Common.{◌≡◌, ap}
-use Rattle.goal_records.specs.declared.path.Path.{Path}
+use Rattle.goal_state.specs.declared.path.Path.{Path}
 use Rattle.goal_moves.specs.declared.going.Going.TheVariants.{On}
 use Rattle.pl_machine.specs.declared.machine.Machine.{Machine}
 use Rattle.pl_machine.proofs.FrontLaws.{Placed, calls_placed, calls_there, uncalled}
@@ -12,14 +12,14 @@ pub returns-in-Goal : goal.returns-in-Goal
 returns-in-Goal c =
     let m : Machine = c.args.self.now in
     let q : Path = c.front_of.new.path in
-    let placed : Placed m.library m.path q = record { others = c.front_of.ensures.others; items = c.front_of.ensures.items } in
+    let placed : Placed m.compiled m.path q = record { others = c.front_of.ensures.others; items = c.front_of.ensures.items } in
     let on : m.going ≡ On = c.in-On.is in
     record {
       machine = placed_machine m q c.requires placed;
       others = ap (λ p. record m { path = p }) placed.others;
       remains = placed_remains m q c.requires.well placed on;
       waits = (on, c.in-Goal.ensures.front);
-      some = (on, calls_placed m.library m.path q placed c.in-Goal.ensures.front.1);
+      some = (on, calls_placed m.compiled m.path q placed c.in-Goal.ensures.front.1);
       none = tt;
       leaves = placed_leaves m q placed;
     }
@@ -28,7 +28,7 @@ pub returns-in_default-front_of : goal.returns-in_default-front_of
 returns-in_default-front_of c =
     let m : Machine = c.args.self.now in
     let q : Path = c.front_of.new.path in
-    let placed : Placed m.library m.path q = record { others = c.front_of.ensures.others; items = c.front_of.ensures.items } in
+    let placed : Placed m.compiled m.path q = record { others = c.front_of.ensures.others; items = c.front_of.ensures.items } in
     let on : m.going ≡ On = c.in-On.is in
     record {
       machine = placed_machine m q c.requires placed;
@@ -36,6 +36,6 @@ returns-in_default-front_of c =
       remains = placed_remains m q c.requires.well placed on;
       waits = tt;
       some = tt;
-      none = λ h. uncalled m.library q c.front_of.result c.front_of.ensures.front c.in_default-front_of.not-Goal (calls_there m.library m.path q placed h.1);
+      none = λ h. uncalled m.compiled q c.front_of.result c.front_of.ensures.front c.in_default-front_of.not-Goal (calls_there m.compiled m.path q placed h.1);
       leaves = placed_leaves m q placed;
     }

@@ -21,7 +21,7 @@ returns-in-Halts-clause-further c left =
     let fits : SFits w64 c.in-Halts.status = search rules in (
       record { text = refl; same = (refl, refl, refl); answers = refl },
       λ r h. subst (λ z. Ended new (E.Halted z) r) (sym (to_z-of_z w64 c.in-Halts.status fits))
-          (ended_halted new m.library m.path r left c.in-Halts.status refl (remains_at m (Halts c.in-Halts.status) r (sym c.in-Halts.ensures.value) h)),
+          (ended_halted new m.compiled m.path r left c.in-Halts.status refl (remains_at m (Halts c.in-Halts.status) r (sym c.in-Halts.ensures.value) h)),
     )
 
 pub returns-in-Halts-clause-did : goal.returns-in-Halts-clause-did

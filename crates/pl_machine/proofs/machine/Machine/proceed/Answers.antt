@@ -20,7 +20,7 @@ returns-then-is_spent-clause-gives c =
     let d : Did (Remains m) m n t u (P.Waits c.in-Waits.stand) = subst (Did (Remains m) m n t u) c.in-Waits.is c.in_ok-settle.ensures.did in
     let first : IsWaiting n (P.Waits c.in-Waits.stand) = subst (IsWaiting n) c.in-Waits.is c.in_ok-settle.ensures.waits in
     gives_ended m n t u E.Spent
-    (d.0, λ r h. ended_spent n n.library n.path r n.left c.in-Waits.stand c.in_ok-settle.ensures.machine.library c.is_spent.ensures.linked first.1.0 refl (c.is_spent.ensures.spent c.if-is_spent.true) (d.1 r h))
+    (d.0, λ r h. ended_spent n n.compiled n.path r n.left c.in-Waits.stand c.in_ok-settle.ensures.machine.compiled c.is_spent.ensures.linked first.1.0 refl (c.is_spent.ensures.spent c.if-is_spent.true) (d.1 r h))
 
 pub returns-in-Quiet-clause-gives : goal.returns-in-Quiet-clause-gives
 returns-in-Quiet-clause-gives c =
@@ -72,7 +72,7 @@ returns-then-branch-clause-further c =
     let d = λ (left : ℕ). subst (Does (Remains (with_left m left)) (with_left m left) (with_left l left) t u) c.in-Waits.is (c.in_ok-settle.ensures.further left) in
     let same : l.left ≡ m.left = ap (λ (x : Machine). x.left) c.in_ok-settle.ensures.others in
     let first : IsWaiting l (P.Waits c.in-Waits.stand) = subst (IsWaiting l) c.in-Waits.is c.in_ok-settle.ensures.waits in
-    further_shown m l c.activate.new.self t u c.activate.new.text c.in-Waits.stand d c.in_ok-activate-in-Waits.ensures.further c.in_ok-settle.ensures.machine.library c.is_spent.ensures.linked first.1.0
+    further_shown m l c.activate.new.self t u c.activate.new.text c.in-Waits.stand d c.in_ok-activate-in-Waits.ensures.further c.in_ok-settle.ensures.machine.compiled c.is_spent.ensures.linked first.1.0
     same c.in_ok-activate-in-Waits.ensures.step (c.in_ok-activate-in-Waits.ensures.grew c.if-branch.true)
 
 pub returns-else-branch-clause-further : goal.returns-else-branch-clause-further
@@ -84,5 +84,5 @@ returns-else-branch-clause-further c =
     let d = λ (left : ℕ). subst (Does (Remains (with_left m left)) (with_left m left) (with_left l left) t u) c.in-Waits.is (c.in_ok-settle.ensures.further left) in
     let same : l.left ≡ m.left = ap (λ (x : Machine). x.left) c.in_ok-settle.ensures.others in
     let first : IsWaiting l (P.Waits c.in-Waits.stand) = subst (IsWaiting l) c.in-Waits.is c.in_ok-settle.ensures.waits in
-    further_quiet m l c.activate.new.self t u c.activate.new.text c.in-Waits.stand d c.in_ok-activate-in-Waits.ensures.further c.in_ok-settle.ensures.machine.library c.is_spent.ensures.linked first.1.0
+    further_quiet m l c.activate.new.self t u c.activate.new.text c.in-Waits.stand d c.in_ok-activate-in-Waits.ensures.further c.in_ok-settle.ensures.machine.compiled c.is_spent.ensures.linked first.1.0
     same c.in_ok-activate-in-Waits.ensures.step (c.in_ok-activate-in-Waits.ensures.quiet c.if-branch.false)

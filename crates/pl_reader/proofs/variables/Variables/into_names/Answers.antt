@@ -1,4 +1,4 @@
-use Rattle.std.proofs.Common.{◌≡◌, ℕ, length, get_or, ap, sym, ◌∙◌, arith}
+use Rattle.std.proofs.Common.{◌≡◌, length, get_or, ap, ◌∙◌, arith}
 use Rattle.pl_reader.proofs.NameLists.{named_more, named_all}
 use Rattle.pl_reader.proofs.variables.Variables.into_names.Goals as goal
 

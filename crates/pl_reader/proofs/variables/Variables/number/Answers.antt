@@ -1,7 +1,7 @@
-use Rattle.std.proofs.Common.{◌≡◌, ℕ, suc, ◌++◌, ◌∷◌, [], List, ap, sym, ◌∙◌}
+use Rattle.std.proofs.Common.{ℕ, ◌++◌, ◌∷◌, [], ap, sym, ◌∙◌}
 use Rattle.pl_atoms.specs.Names.{with_text}
-use Rattle.pl_reader.specs.Numbering.{Met, paired}
-use Rattle.pl_reader.proofs.Numbers.{number_found, met_found, number_new, text_new, met_new, paired_new}
+use Rattle.pl_reader.specs.Numbering.{paired}
+use Rattle.pl_reader.proofs.Numbers.{number_found, met_found, number_new, met_new, paired_new}
 use Rattle.pl_reader.proofs.variables.Variables.number.Goals as goal
 
 pub returns-in-Some-clause-number : goal.returns-in-Some-clause-number

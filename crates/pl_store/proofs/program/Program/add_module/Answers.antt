@@ -1,4 +1,4 @@
-use Rattle.std.proofs.Common.{subst, sym, ap, length, ◌<◌, List, ℕ}
+use Rattle.std.proofs.Common.{subst, sym, length, ◌<◌, List, ℕ}
 use Rattle.std.proofs.lemmas.Option.{slice_get_within}
 use Rattle.pl_store.specs.Facts.{IsLinked}
 use Rattle.pl_store.specs.Linked.{with_names}

@@ -1,6 +1,3 @@
-use Rattle.std.proofs.Common.{subst, sym, []}
-use Rattle.pl_store.specs.Facts.{IsLinked}
-use Rattle.pl_store.specs.Linked.{Linked, with_names}
 use Rattle.pl_store.proofs.FactLaws.{empty-linked}
 use Rattle.pl_store.proofs.program.Program.new.Goals as goal
 

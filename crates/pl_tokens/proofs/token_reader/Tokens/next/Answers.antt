@@ -1,13 +1,10 @@
-use Rattle.std.proofs.Common.{◌≡◌, ℕ, List, length, take, nat_lt, ap, sym, ◌∙◌, subst, Ok, Option, Some, arith}
+use Rattle.std.proofs.Common.{◌≡◌, ℕ, List, length, take, nat_lt, ap, sym, ◌∙◌, subst, Ok, Option, Some, arith, Bool}
 use Rattle.text_model.specs.Tokens.{Token, placed, placed_at}
 use Rattle.pl_tokens.specs.Views.{token_view}
-use Rattle.pl_tokens.specs.Runs.{NextGives}
-use Rattle.pl_tokens.specs.Reader.{next_of, past}
+use Rattle.pl_tokens.specs.Runs.{NextGives, NextWithin}
+use Rattle.pl_tokens.specs.Reader.{next_of, past, Reader, IsStanding}
 use Rattle.pl_tokens.specs.declared.token_reader.PlacedToken.{PlacedToken}
-use Rattle.std.proofs.Common.{Bool}
 use Rattle.pl_tokens.specs.Facts.{IsTokenBetween}
-use Rattle.pl_tokens.specs.Runs.{NextWithin}
-use Rattle.pl_tokens.specs.Reader.{Reader, IsStanding}
 use Rattle.pl_tokens.proofs.Sound.{placed_at-sound}
 use Rattle.pl_tokens.proofs.Readers.{valid-length, next_of-is, past-is, at_of, place-is, place-within, standing-within, stands-at}
 use Rattle.pl_tokens.proofs.token_reader.Tokens.next.Goals as goal

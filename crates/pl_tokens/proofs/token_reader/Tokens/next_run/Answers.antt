@@ -1,13 +1,10 @@
-use Rattle.std.proofs.Common.{◌≡◌, ℕ, suc, List, length, take, nat_lt, ap, sym, ◌∙◌, subst, Ok, Option, Some, arith}
+use Rattle.std.proofs.Common.{◌≡◌, ℕ, suc, List, length, take, nat_lt, ap, sym, ◌∙◌, subst, Ok, Option, Some, arith, Bool}
 use Rattle.text_model.specs.Tokens.{run, run_from}
 use Rattle.pl_tokens.specs.Views.{tokens_view}
-use Rattle.pl_tokens.specs.Runs.{RunGives}
-use Rattle.pl_tokens.specs.Reader.{run_of, past_run}
+use Rattle.pl_tokens.specs.Runs.{RunGives, RunWithin}
+use Rattle.pl_tokens.specs.Reader.{run_of, past_run, Reader, IsStanding}
 use Rattle.pl_tokens.specs.declared.token_reader.PlacedRun.{PlacedRun}
-use Rattle.std.proofs.Common.{Bool}
 use Rattle.pl_tokens.specs.Facts.{IsRun}
-use Rattle.pl_tokens.specs.Runs.{RunWithin}
-use Rattle.pl_tokens.specs.Reader.{Reader, IsStanding}
 use Rattle.pl_tokens.proofs.Reading.{run-progress}
 use Rattle.pl_tokens.proofs.Readers.{valid-length, run_of-is, enough-turns, at_of, place-is, place-within, standing-within, stands-at}
 use Rattle.pl_tokens.proofs.token_reader.Tokens.next_run.Goals as goal

@@ -9,7 +9,7 @@ use Rattle.pl_unify.specs.Coding.{piece_trees}
 use Rattle.pl_unify.specs.Words.{word_tree}
 use Rattle.pl_unify.proofs.CodeMaking.{vars_at, has_at, root_tree, reverse-piece}
 use Rattle.pl_unify.proofs.code.Code.of.Goals as goal
-use Rattle.pl_unify.proofs.code.Code.of.Goals.{After-cells-cells, After-pop}
+use Rattle.pl_unify.proofs.code.Code.of.Goals.{After-pop}
 
 pub add_code-requires-clause-vars : goal.add_code-requires-clause-vars
 add_code-requires-clause-vars c =

@@ -1,5 +1,5 @@
 use Rattle.std.proofs.Common.{◌≡◌, ℕ, ap, ◌<◌, length, sym, subst, false}
-use Rattle.run_model.specs.Substitution.{occurs}
+use Rattle.unifier_model.specs.Substitution.{occurs}
 use Rattle.pl_unify.specs.declared.word.Word.{Word}
 use Rattle.pl_unify.specs.declared.word.Word.TheVariants.{Var}
 use Rattle.pl_unify.specs.Words.{IsFree, WordIn, link}

@@ -2,8 +2,8 @@ use Rattle.std.proofs.Common.{◌∙◌, ap, subst}
 use Rattle.std.specs.Int.{w64}
 use Rattle.std.proofs.lemmas.Int.{to_z-of_z}
 use Rattle.pl_terms.specs.Trees.{int}
-use Rattle.run_model.specs.Substitution.{occurs}
-use Rattle.run_model.proofs.Replaced.{apply-int}
+use Rattle.unifier_model.specs.Substitution.{occurs}
+use Rattle.unifier_model.proofs.Replaced.{apply-int}
 use Rattle.pl_unify.specs.State.{Binds, bound}
 use Rattle.pl_unify.proofs.store.Store.bind_int.Goals as goal
 

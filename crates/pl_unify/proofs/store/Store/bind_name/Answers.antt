@@ -1,7 +1,7 @@
 use Rattle.std.proofs.Common.{ap, subst}
 use Rattle.pl_terms.specs.Trees.{atom}
-use Rattle.run_model.specs.Substitution.{occurs}
-use Rattle.run_model.proofs.Replaced.{apply-atom}
+use Rattle.unifier_model.specs.Substitution.{occurs}
+use Rattle.unifier_model.proofs.Replaced.{apply-atom}
 use Rattle.pl_unify.specs.State.{Binds, bound}
 use Rattle.pl_unify.proofs.store.Store.bind_name.Goals as goal
 

@@ -1,7 +1,7 @@
 use Rattle.std.proofs.Common.{◌≡◌, ℕ, ◌<◌, ◌≤◌, ◌∙◌, ◌++◌, ap, sym, subst, length, arith, ◌+◌, ◌-◌, rules, List, map, take, drop, get_or}
 use Rattle.std.proofs.lemmas.List.{length-append}
 use Rattle.pl_terms.specs.Trees.{var}
-use Rattle.run_model.specs.Substitution.{raise}
+use Rattle.unifier_model.specs.Substitution.{raise}
 use Rattle.pl_unify.specs.declared.word.Word.{Word}
 use Rattle.pl_unify.specs.declared.code.CodeWord.{CodeWord}
 use Rattle.pl_unify.specs.State.{State, Stored, IsStore, base, Grows}

@@ -3,7 +3,6 @@ use Rattle.pl_unify.specs.declared.code.CodeWord.TheVariants as K
 use Rattle.pl_unify.specs.declared.word.Word.TheVariants as W
 use Rattle.pl_unify.specs.Code.{CodeIn}
 use Rattle.pl_unify.specs.State.{tree_of_word}
-use Rattle.pl_unify.specs.declared.word.Word.TheVariants.{Var}
 use Rattle.pl_unify.proofs.Building.{built_comp}
 use Rattle.pl_unify.proofs.Matching.{code_word, code_var}
 use Rattle.pl_unify.proofs.store.Store.build_word.Goals as goal

@@ -1,7 +1,6 @@
 use Rattle.pl_unify.proofs.Fields.{fields-grown}
-use Rattle.std.proofs.lemmas.List.{append-nil}
+use Rattle.std.proofs.lemmas.List.{append-nil, length-reverse}
 use Rattle.std.proofs.Common.{[], ◌≡◌, ◌∙◌, ◌++◌, ap, sym, subst, reverse, take, length, rules, arith}
-use Rattle.std.proofs.lemmas.List.{length-reverse}
 use Rattle.pl_unify.specs.State.{Stored, IsStore}
 use Rattle.pl_unify.proofs.Follow.{inside}
 use Rattle.pl_unify.proofs.Adds.{with_more}

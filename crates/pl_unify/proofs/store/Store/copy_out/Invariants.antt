@@ -1,5 +1,5 @@
 use Rattle.std.proofs.Common.{◌≡◌, ◌++◌, length, reverse, All}
-use Rattle.run_model.specs.Substitution.{sizes}
+use Rattle.unifier_model.specs.Substitution.{sizes}
 use Rattle.pl_unify.specs.Prefix.{trees}
 use Rattle.pl_terms.specs.Cells.{cells, all_cells, IsCell}
 use Rattle.pl_unify.specs.State.{tree_at}

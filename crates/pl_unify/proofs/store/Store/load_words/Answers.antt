@@ -1,11 +1,10 @@
 use Rattle.std.proofs.Common.{◌≡◌, ◌<◌, ◌+◌, ◌-◌, ◌^◌, ◌∙◌, ◌∷◌, [], ℕ, refl, ap, sym, subst, arith, length, map, drop, get_or}
 use Rattle.std.proofs.lemmas.List.{length-map}
 use Rattle.pl_terms.specs.declared.cell.Cell.TheVariants as C
-use Rattle.run_model.specs.Substitution.{raise}
+use Rattle.unifier_model.specs.Substitution.{raise, apply}
 use Rattle.pl_unify.specs.Prefix.{build, first_tree}
 use Rattle.pl_unify.proofs.PrefixLaws.{Enough, Enough-tree, build-tree, IsCell-forest}
 use Rattle.pl_unify.specs.Load.{word_trees, NewInOrder}
-use Rattle.run_model.specs.Substitution.{apply}
 use Rattle.pl_unify.specs.State.{bound, tree_at}
 use Rattle.pl_unify.proofs.Loading.{cell_allowed, Further, further, length-word_trees, Grows-trans, IfOk-map}
 use Rattle.pl_unify.proofs.store.Store.load_words.Goals as goal

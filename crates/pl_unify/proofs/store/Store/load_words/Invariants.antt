@@ -1,5 +1,5 @@
 use Rattle.std.proofs.Common.{◌≡◌, ◌≤◌, drop, reverse, map, length}
-use Rattle.run_model.specs.Substitution.{raise}
+use Rattle.unifier_model.specs.Substitution.{raise}
 use Rattle.pl_unify.specs.Prefix.{build}
 use Rattle.pl_unify.specs.State.{Grows}
 use Rattle.pl_unify.specs.Load.{WordsIn, word_trees, next_after}

@@ -1,5 +1,5 @@
 use Rattle.std.proofs.Common.{◌≡◌, ◌∙◌, ◌<◌, ap, sym, arith}
-use Rattle.run_model.specs.Substitution.{occurs_any}
+use Rattle.unifier_model.specs.Substitution.{occurs_any}
 use Rattle.pl_unify.specs.declared.word.Word.TheVariants.{Var}
 use Rattle.pl_unify.specs.State.{shape}
 use Rattle.pl_unify.specs.Notes.{block}

@@ -1,5 +1,5 @@
 use Rattle.std.proofs.Common.{◌≡◌, ◌+◌, ◌-◌}
-use Rattle.run_model.specs.Substitution.{occurs_any}
+use Rattle.unifier_model.specs.Substitution.{occurs_any}
 use Rattle.pl_unify.specs.Notes.{block}
 use Rattle.pl_unify.proofs.store.Store.look.Given as goal
 

@@ -2,7 +2,7 @@ use Rattle.std.proofs.Common.{◌≡◌, ◌∙◌, ap, subst, refl, rules}
 use Rattle.std.specs.Int.{w64, cast_unsigned}
 use Rattle.std.proofs.lemmas.Int.{to_z-of_z}
 use Rattle.pl_terms.specs.Trees.{int}
-use Rattle.run_model.specs.Unifier.IsClash.{ints}
+use Rattle.unifier_model.specs.Unifier.IsClash.{ints}
 use Rattle.pl_unify.specs.State.{Binds}
 use Rattle.pl_unify.proofs.Matching.{tree-same, tree-clash, constant-bound, not_int}
 use Rattle.pl_unify.proofs.store.Store.match_int.Goals as goal

@@ -1,7 +1,7 @@
 use Rattle.std.proofs.Common.{◌∙◌, ap, refl, sym}
 use Rattle.std.proofs.lemmas.Bool.{eqb-true, eqb-false}
 use Rattle.pl_terms.specs.Trees.{atom}
-use Rattle.run_model.specs.Unifier.IsClash.{atoms}
+use Rattle.unifier_model.specs.Unifier.IsClash.{atoms}
 use Rattle.pl_unify.proofs.Matching.{tree-same, tree-clash, constant-bound, not_name}
 use Rattle.pl_unify.proofs.store.Store.match_name.Goals as goal
 

@@ -3,7 +3,7 @@ use Rattle.std.specs.Int.{w64}
 use Rattle.std.specs.Int.RustNames.{FitsSigned}
 use Rattle.std.proofs.lemmas.Int.{to_z-of_z}
 use Rattle.pl_terms.specs.Trees.{int}
-use Rattle.run_model.proofs.Replaced.{apply-int, apply-atom}
+use Rattle.unifier_model.proofs.Replaced.{apply-int, apply-atom}
 use Rattle.pl_unify.specs.declared.code.CodeWord.TheVariants as K
 use Rattle.pl_unify.specs.declared.store.head.Met.TheVariants as M
 use Rattle.pl_unify.specs.Code.{code_tree_in}

@@ -1,7 +1,7 @@
 use Rattle.std.proofs.Common.{◌≡◌, [], sym, subst, arith, Some}
 use Rattle.std.proofs.lemmas.List.{nil_from_length}
-use Rattle.run_model.specs.Unifier.{Solved}
-use Rattle.run_model.specs.Unifier.Solved.{solved}
+use Rattle.unifier_model.specs.Unifier.{Solved}
+use Rattle.unifier_model.specs.Unifier.Solved.{solved}
 use Rattle.pl_unify.specs.Steps.{equations}
 use Rattle.pl_unify.proofs.Solving.{Looked, Parted, looked-below, looked-same, looked-clash, looked_bind_left, looked_bind_right, looked-parts}
 use Rattle.pl_unify.proofs.store.Store.next_binding.Goals as goal

@@ -1,6 +1,6 @@
 use Rattle.std.proofs.Common.{ℕ, length, reverse, Option, List}
 use Rattle.pl_terms.specs.Trees.{Tree}
-use Rattle.run_model.specs.Unifier.{Solved}
+use Rattle.unifier_model.specs.Unifier.{Solved}
 use Rattle.pl_unify.specs.Steps.{PairsBelow, equations}
 use Rattle.pl_unify.proofs.Solving.{weight}
 use Rattle.pl_unify.proofs.store.Store.next_binding.Given as goal

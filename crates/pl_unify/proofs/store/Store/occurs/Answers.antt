@@ -1,6 +1,6 @@
 use Rattle.std.proofs.Common.{◌∙◌, ◌+◌, ◌≤◌, ap, sym, subst, reverse, length, arith}
 use Rattle.pl_unify.specs.Words.{WordIn}
-use Rattle.run_model.specs.Substitution.{occurs}
+use Rattle.unifier_model.specs.Substitution.{occurs}
 use Rattle.pl_unify.specs.State.{shape, tree_of_word}
 use Rattle.pl_unify.proofs.Shapes.{tree_of_word-shape}
 use Rattle.pl_unify.proofs.Walk.{occurs_plain}

@@ -1,5 +1,5 @@
 use Rattle.std.proofs.Common.{◌≡◌, ◌∙◌, ap, sym, length, rules}
-use Rattle.run_model.proofs.Replaced.{apply-int}
+use Rattle.unifier_model.proofs.Replaced.{apply-int}
 use Rattle.pl_unify.specs.declared.word.Word.TheVariants.{Int}
 use Rattle.pl_unify.specs.State.{Stored, tree_at, tree_of_word, bound}
 use Rattle.pl_unify.proofs.Compounds.{put_tree}

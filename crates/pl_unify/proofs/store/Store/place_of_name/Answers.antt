@@ -1,5 +1,5 @@
 use Rattle.std.proofs.Common.{◌≡◌, ◌∙◌, ap, sym, length, rules}
-use Rattle.run_model.proofs.Replaced.{apply-atom}
+use Rattle.unifier_model.proofs.Replaced.{apply-atom}
 use Rattle.pl_unify.specs.State.{Stored, tree_at, bound}
 use Rattle.pl_unify.specs.declared.word.Word.TheVariants.{Name}
 use Rattle.pl_unify.proofs.Compounds.{put_tree}

@@ -1,5 +1,5 @@
 use Rattle.std.proofs.Common.{◌≡◌, ◌∙◌, ◌++◌, ◌∷◌, [], ap, sym, subst, false}
-use Rattle.run_model.specs.Substitution.{occurs}
+use Rattle.unifier_model.specs.Substitution.{occurs}
 use Rattle.pl_unify.specs.State.{State, Binds, tree_of_word}
 use Rattle.pl_unify.specs.Words.{link}
 use Rattle.pl_unify.specs.Steps.{BindStep, IsStep, equations}

@@ -2,8 +2,8 @@ use Rattle.std.proofs.Common.{◌≡◌, ◌∙◌, ◌++◌, ◌∷◌, [], ap,
 use Rattle.std.specs.Prelude.{MatchBool}
 use Rattle.pl_unify.specs.State.{State}
 use Rattle.pl_unify.specs.Steps.{Unified, NotUnified, equations}
-use Rattle.run_model.specs.Unifier.{Solved}
-use Rattle.run_model.proofs.Only.{mgu-Solved}
+use Rattle.unifier_model.specs.Unifier.{Solved}
+use Rattle.unifier_model.proofs.Only.{mgu-Solved}
 use Rattle.pl_unify.proofs.Unifying.{progress_unified, only-moved}
 use Rattle.pl_unify.proofs.Matching.{Answer, IfOk-one, answer-moved}
 use Rattle.pl_unify.proofs.store.Store.solve_pair.Goals as goal

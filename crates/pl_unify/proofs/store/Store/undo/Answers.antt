@@ -4,7 +4,7 @@ use Rattle.pl_unify.proofs.Fields.{fields-undone}
 use Rattle.pl_unify.proofs.Follow.{inside}
 use Rattle.pl_unify.proofs.Bound.{inside-unbindable, undo_made, UndoMade}
 use Rattle.pl_unify.proofs.store.Store.undo.Goals as goal
-use Rattle.pl_unify.proofs.store.Store.undo.Goals.{After-unbind, After-truncate-3}
+use Rattle.pl_unify.proofs.store.Store.undo.Goals.{After-truncate-3}
 
 pub unbind-requires-clause-order : goal.unbind-requires-clause-order
 unbind-requires-clause-order c = inside-unbindable c.self.inside.cells.items _ _ c.self.invariant.inside

@@ -1,5 +1,5 @@
 use Rattle.std.proofs.Common.{◌≡◌, ℕ, ◌<◌, ◌∙◌, ◌∷◌, Bool, ap, sym, subst, reverse, length}
-use Rattle.run_model.specs.Substitution.{occurs_any}
+use Rattle.unifier_model.specs.Substitution.{occurs_any}
 use Rattle.pl_unify.specs.declared.word.Word.TheVariants as W
 use Rattle.pl_unify.specs.declared.store.notes.Step.TheVariants.{Visit, Done}
 use Rattle.pl_unify.specs.Prefix.{trees}

@@ -1,5 +1,5 @@
 use Rattle.std.proofs.Common.{◌≡◌, reverse}
-use Rattle.run_model.specs.Substitution.{occurs_any}
+use Rattle.unifier_model.specs.Substitution.{occurs_any}
 use Rattle.pl_unify.specs.Prefix.{trees}
 use Rattle.pl_unify.specs.Notes.{visit_trees, IsPassed}
 use Rattle.pl_unify.proofs.Grounds.{Walking, step_weight}

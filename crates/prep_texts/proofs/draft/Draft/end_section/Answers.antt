@@ -3,7 +3,7 @@ use Rattle.unit_model.specs.Encoding.{text_at}
 use Rattle.unit_model.specs.Preparing.{Interface, operators_of}
 use Rattle.unit_model.specs.Views.{kind_view}
 use Rattle.unit_model.specs.declared.facts.Section.{Section}
-use Rattle.preparing_model.specs.Entries.{entries_in}
+use Rattle.unit_model.specs.Entries.{entries_in}
 use Rattle.prep_texts.specs.declared.draft.Draft.{Draft}
 use Rattle.prep_texts.specs.declared.draft.OpenSection.{OpenSection}
 use Rattle.prep_texts.specs.Interfaces.{interfaces_view}

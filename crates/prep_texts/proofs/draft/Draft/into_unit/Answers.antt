@@ -3,7 +3,7 @@ use Rattle.pl_atoms.proofs.Numbers.{IsFront-grown}
 use Rattle.unit_model.specs.declared.facts.Section.{Section}
 use Rattle.unit_model.specs.declared.facts.SectionKind.TheVariants.{Body}
 use Rattle.unit_format.specs.Views.{unit_facts}
-use Rattle.preparing_model.specs.Entries.{IsSound}
+use Rattle.unit_model.specs.Entries.{IsSound}
 use Rattle.prep_texts.proofs.UnitLaws.{facts-same, facts-below}
 use Rattle.prep_texts.proofs.draft.Draft.into_unit.Goals as goal
 

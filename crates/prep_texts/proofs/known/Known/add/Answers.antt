@@ -1,5 +1,5 @@
 use Rattle.std.proofs.Common.{is_err, false, ◌≡◌, sym, subst, ◌++◌}
-use Rattle.preparing_model.specs.Known.{AreGood, interfaces_of}
+use Rattle.unit_model.specs.Known.{AreGood, interfaces_of}
 use Rattle.unit_format.specs.Views.{unit_facts}
 use Rattle.prep_texts.specs.Interfaces.{interfaces_view, IsIndexed}
 use Rattle.prep_texts.proofs.SoundLaws.{good-append, unit-good, when-ok}

@@ -1,7 +1,0 @@
-use Rattle.std.proofs.Common.{◌<◌, ◌↔◌, IsTrue, not, subst}
-use Rattle.pl_terms.specs.Trees.{count}
-use Rattle.directive_forms.proofs.Walking.{has_more-is}
-use Rattle.directive_forms.proofs.walk.Walk.has_more.Goals as goal
-
-pub returns : goal.returns
-returns c = subst (λ ts. IsTrue (not c.is_empty.result) ↔ (0 < count ts)) c.self.view_is (has_more-is _ c.is_empty.result c.is_empty.ensures)

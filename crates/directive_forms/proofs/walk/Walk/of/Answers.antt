@@ -1,7 +1,0 @@
-use Rattle.std.proofs.Common.{ap, ◌∙◌}
-use Rattle.pl_terms.specs.Cells.{forest}
-use Rattle.directive_forms.proofs.Walking.{forest-one}
-use Rattle.directive_forms.proofs.walk.Walk.of.Goals as goal
-
-pub returns : goal.returns
-returns c = ap forest c.cells.ensures.same ∙ forest-one c.args.term.now

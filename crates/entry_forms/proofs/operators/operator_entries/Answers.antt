@@ -1,8 +1,0 @@
-use Rattle.std.proofs.Common.{length}
-use Rattle.directive_forms.proofs.NameBounds.{entered_below}
-use Rattle.entry_forms.proofs.operators.operator_entries.Goals as goal
-
-pub operator_names-requires : goal.operator_names-requires
-operator_names-requires c =
-    let n = length c.args.names.now in
-    entered_below n c.enter.new.self c.enter-2.new.self c.enter-2.ensures.trees (entered_below n c.args.args c.enter.new.self c.enter.ensures.trees c.requires.below)

@@ -1,3 +1,0 @@
-pub mod Denotation
-pub mod Well
-pub mod Steps

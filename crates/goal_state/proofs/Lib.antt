@@ -1,0 +1,9 @@
+pub mod FramePlaces
+pub mod FrameLaws
+pub mod StoreLaws
+pub mod PlaceLaws
+pub mod RecordLaws
+pub mod PathLaws
+pub mod BindLaws
+pub mod BackLaws
+pub mod OpenRecords

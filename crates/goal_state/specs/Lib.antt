@@ -1,0 +1,4 @@
+pub mod Frames
+pub mod Denotation
+pub mod Well
+pub mod Steps

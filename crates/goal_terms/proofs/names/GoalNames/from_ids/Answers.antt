@@ -1,6 +1,0 @@
-use Rattle.std.proofs.Common.{◌≡◌, subst}
-use Rattle.goal_terms.proofs.Tables.{spread, spread-all}
-use Rattle.goal_terms.proofs.names.GoalNames.from_ids.Goals as goal
-
-pub returns : goal.returns
-returns c = subst (λ k. spread c.args.ids.now (record { 0 = 0 }) k 0 ≡ c.args.ids.now) c.requires (spread-all c.args.ids.now (record { 0 = 0 }))

@@ -1,5 +1,0 @@
-pub mod Decided
-pub mod Runs
-pub mod Variables
-pub mod Faults
-mod Vectors

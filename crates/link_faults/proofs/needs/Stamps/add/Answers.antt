@@ -1,7 +1,0 @@
-use Rattle.std.proofs.Common.{ap, ◌∙◌}
-use Rattle.link_faults.specs.Needing.{stamps_in}
-use Rattle.link_faults.proofs.Stamps.{stamps-insert}
-use Rattle.link_faults.proofs.needs.Stamps.add.Goals as goal
-
-pub returns : goal.returns
-returns c = ap stamps_in c.in_ok-insert.ensures.keys ∙ stamps-insert c.args.self.now.all.keys c.args.stamp.marks

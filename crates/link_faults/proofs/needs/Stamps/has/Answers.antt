@@ -1,6 +1,0 @@
-use Rattle.std.proofs.Common.{◌∙◌}
-use Rattle.link_faults.proofs.Stamps.{stamps-any}
-use Rattle.link_faults.proofs.needs.Stamps.has.Goals as goal
-
-pub returns : goal.returns
-returns c = c.contains.ensures ∙ stamps-any c.args.self.now.all.keys c.args.stamp.now.marks.items

@@ -1,5 +1,0 @@
-use Rattle.std.proofs.Common.{refl}
-use Rattle.pl_machine.proofs.library.written.Goals as goal
-
-pub returns : goal.returns
-returns c = refl

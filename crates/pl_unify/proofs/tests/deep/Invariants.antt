@@ -1,7 +1,0 @@
-use Rattle.std.proofs.Common.{ℕ, List, ◌++◌}
-use Rattle.pl_terms.specs.declared.cell.Cell.{Cell}
-use Rattle.pl_unify.specs.Load.{NewInOrder}
-use Rattle.pl_unify.proofs.tests.deep.Given as goal
-
-abbrev pub invariant-loop : goal.invariant-loop
-invariant-loop l = (n : ℕ) (rest : List Cell) → NewInOrder n n rest → NewInOrder n n (l.cells ++ rest)

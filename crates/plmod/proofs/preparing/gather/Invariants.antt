@@ -1,8 +1,0 @@
-use Rattle.std.proofs.Common.{take}
-use Rattle.plmod.proofs.Units.{Gathered}
-use Rattle.plmod.proofs.preparing.gather.Given as goal
-
-abbrev pub invariant-loop-place : goal.invariant-loop-place
-invariant-loop-place l = record {
-  so_far : Gathered (take l.place l.contents) l.known;
-}

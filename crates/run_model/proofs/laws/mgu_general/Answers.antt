@@ -1,6 +1,0 @@
-use Rattle.run_model.proofs.MguProofs.{Solved-mgu}
-use Rattle.run_model.proofs.LawProofs.{Solved-factors}
-use Rattle.run_model.proofs.laws.mgu_general.Goals as goal
-
-pub returns : goal.returns
-returns c = λ es s u. Solved-factors s (Solved-mgu es) u

@@ -1,6 +1,0 @@
-use Rattle.run_model.proofs.MguProofs.{Solved-mgu}
-use Rattle.run_model.proofs.LawProofs.{Solved-unifier}
-use Rattle.run_model.proofs.laws.mgu_unifies.Goals as goal
-
-pub returns : goal.returns
-returns c = λ es. Solved-unifier (Solved-mgu es)

@@ -1,5 +1,0 @@
-use Rattle.run_model.proofs.LawProofs.{IsMgu-unique}
-use Rattle.run_model.proofs.laws.mgu_unique.Goals as goal
-
-pub returns : goal.returns
-returns c = IsMgu-unique

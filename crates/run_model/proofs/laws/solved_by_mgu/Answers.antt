@@ -1,5 +1,0 @@
-use Rattle.run_model.proofs.MguProofs.{Solved-mgu}
-use Rattle.run_model.proofs.laws.solved_by_mgu.Goals as goal
-
-pub returns : goal.returns
-returns c = Solved-mgu

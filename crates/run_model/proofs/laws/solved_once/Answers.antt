@@ -1,7 +1,0 @@
-use Rattle.run_model.specs.Mgu.{mgu}
-use Rattle.run_model.proofs.MguProofs.{Solved-mgu}
-use Rattle.run_model.proofs.Only.{Solved-only}
-use Rattle.run_model.proofs.laws.solved_once.Goals as goal
-
-pub returns : goal.returns
-returns c = λ es a h. Solved-only es a (mgu es) h (Solved-mgu es)

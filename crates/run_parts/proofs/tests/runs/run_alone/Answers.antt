@@ -1,4 +1,0 @@
-use Rattle.run_parts.proofs.tests.runs.run_alone.Goals as goal
-
-pub counts-requires : goal.counts-requires
-counts-requires g c = c.in_ok-run.ensures

@@ -1,0 +1,2 @@
+//! A machine over a program of no clauses.
+mod moves;

@@ -1,0 +1,59 @@
+//! Units with link faults.
+use mod_faults::first_fault;
+use mod_visible::Visibility;
+use std::alloc::Global;
+use std::test::Fail;
+use unit_format::decode;
+
+// The unit of `a.`.
+const FACT: &[u8] =
+    b"PLMU\x01\x00\x00\x00\x03\x00\x00\x00\x04user\x00\x00\x00\x01a\x00\x00\x00\x04true\x00\x00\x00\x00\x00\x00\x00\x01\x02\x00\x00\x00\x00\x00\x00\x00\x00\x00\x00\x00\x01\x08\x00\x00\x00\x00\x00\x00\x00\x00\x02\x00\x00\x00\x01\x02\x00\x00\x00\x02";
+
+// A module `m` at byte 3 with nothing in its interface.
+const MODULE: &[u8] =
+    b"PLMU\x01\x00\x00\x00\x02\x00\x00\x00\x04user\x00\x00\x00\x01m\x00\x00\x00\x00\x00\x00\x00\x02\x02\x00\x00\x00\x00\x00\x00\x00\x00\x00\x00\x00\x00\x01\x00\x00\x00\x03\x00\x00\x00\x01\x00\x00\x00\x00";
+
+// A module `m` at byte 3 that exports p/0 at byte 9.
+const EXPORT: &[u8] =
+    b"PLMU\x01\x00\x00\x00\x03\x00\x00\x00\x04user\x00\x00\x00\x01m\x00\x00\x00\x01p\x00\x00\x00\x00\x00\x00\x00\x02\x02\x00\x00\x00\x00\x00\x00\x00\x00\x00\x00\x00\x00\x01\x00\x00\x00\x03\x00\x00\x00\x01\x00\x00\x00\x01\x01\x00\x00\x00\x09\x00\x00\x00\x02\x00";
+
+// A text that needs `m` without operators and imports all of it, at byte 5.
+const NEED: &[u8] =
+    b"PLMU\x01\x00\x00\x00\x02\x00\x00\x00\x01m\x00\x00\x00\x04user\x00\x00\x00\x01\x00\x00\x00\x05\x00\x00\x00\x00\x00\x00\x00\x00\x00\x00\x00\x01\x02\x00\x00\x00\x00\x00\x00\x00\x01\x00\x00\x00\x01\x06\x00\x00\x00\x05\x00\x00\x00\x00";
+
+// A text that needs `m` without operators and imports a/0 of it, at byte 5.
+const IMPORT: &[u8] =
+    b"PLMU\x01\x00\x00\x00\x03\x00\x00\x00\x01m\x00\x00\x00\x04user\x00\x00\x00\x01a\x00\x00\x00\x01\x00\x00\x00\x05\x00\x00\x00\x00\x00\x00\x00\x00\x00\x00\x00\x01\x02\x00\x00\x00\x00\x00\x00\x00\x01\x00\x00\x00\x01\x07\x00\x00\x00\x05\x00\x00\x00\x00\x00\x00\x00\x02\x00";
+
+// The number, the unit and the byte of the first fault of units.
+const CASES: [(&[&[u8]], Option<(u8, usize, usize)>); 9] = [
+    (&[], None),
+    (&[FACT], None),
+    (&[MODULE, NEED], None),
+    (&[NEED, MODULE], Some((2, 0, 5))),
+    (&[MODULE, FACT, MODULE], Some((3, 2, 3))),
+    (&[EXPORT], Some((4, 0, 9))),
+    (&[MODULE, IMPORT], Some((6, 1, 5))),
+    (&[FACT, FACT], Some((8, 1, 0))),
+    (&[FACT, NEED, FACT, EXPORT], Some((2, 1, 5))),
+];
+
+fn found(alloc: Global, texts: &[&[u8]]) -> Result<Option<(u8, usize, usize)>, Fail> {
+    let mut units = Vec::new(alloc);
+    for text in texts {
+        units.push(decode(alloc, text)?)?;
+    }
+    let visibility = Visibility::of(alloc, &units)?;
+    match first_fault(alloc, &units, &visibility)? {
+        Some(fault) => Ok(Some((fault.number, fault.unit, fault.byte))),
+        None => Ok(None),
+    }
+}
+
+#[test]
+fn first_faults_are_found(rt: HostRuntime) -> Result<(), Fail> {
+    for (texts, want) in &CASES {
+        assert_eq!(rt; found(rt.alloc(), texts)?, *want);
+    }
+    Ok(())
+}
